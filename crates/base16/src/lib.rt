@@ -1,0 +1,22 @@
+//! Words of 16 bits and what every layer says about them: conversions of C, registers, readings, images, names.
+#![tactic(auto)]
+
+mod end;
+mod image;
+mod integer;
+mod name;
+mod operator;
+mod reading;
+mod registers;
+mod sequence;
+mod words;
+
+pub use end::EndKind;
+pub use image::{FuncSym, Image, Kind, Scalar, Symbols};
+pub use integer::{IntType, convert, to_signed, wrap};
+pub use name::{Name, NoMemory};
+pub use operator::{BinaryOp, UnaryOp};
+pub use reading::Reading;
+pub use registers::Regs;
+pub use sequence::Sequence;
+pub use words::Words;

@@ -1,0 +1,95 @@
+ghost use Rattle.std.specs.Prelude.{◌≡◌, ◌/◌, ◌%◌, length, slice_index, slice_set, replicate, IfOk};
+ghost use Rattle.base16.specs.Memory.{words_of, put};
+ghost use Rattle.fram.specs.Contents.{poked_after};
+
+use base16::{NoMemory, Words};
+use std::alloc::Global;
+use std::marker::Model;
+
+/// How many words the memory has.
+pub const WORDS: usize = 32768;
+
+/// First byte address of the stack segments.
+const SEGMENTS_START: u16 = 0x2000;
+
+/// First byte address past the stack segments.
+const SEGMENTS_END: u16 = 0x4000;
+
+/// The board's memory. Byte addresses are 0000 to FFFF (hexadecimal), and each word stands at an even one.
+#[derive(Drop)]
+pub struct Fram {
+    words: Vec<u16>,
+    poked: u64,
+}
+
+impl Model for Fram {
+    ghost use Rattle.std.specs.Prelude.{◌≡◌, vec_len};
+    ghost use Rattle.fram.specs.Contents.{Contents};
+
+    ghost Value = { Contents };
+
+    ghost view = { λ f. record { words = f.words.items; poked = f.poked } };
+
+    ghost invariant = { λ f. vec_len f.words ≡ 32768 };
+}
+
+impl Fram {
+    /// A memory in which each word is 0.
+    pub fn blank(alloc: Global) -> Result<Fram, NoMemory>
+        ensures words { IfOk result (λ fram. fram.words ≡ replicate 32768 0) }
+        ensures poked { IfOk result (λ fram. fram.poked ≡ 0) }
+    {
+        Ok(Fram {
+            words: vec![in alloc; 0; WORDS]?,
+            poked: 0,
+        })
+    }
+
+    /// The word at an even byte address.
+    pub fn get(&self, address: u16) -> u16
+        requires { address % 2 ≡ 0 }
+        ensures value { result ≡ slice_index self.now.words (address / 2) }
+        ensures size { length self.now.words ≡ 32768 }
+    {
+        self.words[address as usize / 2]
+    }
+
+    /// Sets the word at an even byte address, at no cost in ticks: what a load does, and never a running program.
+    pub fn poke(&mut self, address: u16, word: u16)
+        requires { address % 2 ≡ 0 }
+        ensures words { self.new.words ≡ slice_set self.old.words (address / 2) word }
+        ensures poked { self.new.poked ≡ poked_after address self.old.poked }
+        ensures size { length self.new.words ≡ 32768 }
+    {
+        self.words[address as usize / 2] = word;
+        if address < SEGMENTS_START || address >= SEGMENTS_END {
+            self.poked = self.poked.saturating_add(1);
+        }
+    }
+}
+
+impl Words for Fram {
+    ghost words = { λ fram. words_of fram.words };
+
+    fn word(&self, address: u16) -> u16 {
+        self.get(address)
+    }
+}
+
+#[cfg(test)]
+mod tests {
+    use super::*;
+    use std::test::Fail;
+
+    #[test]
+    fn a_word_set_is_read_back_alone(rt: HostRuntime) -> Result<(), Fail> {
+        let mut fram = Fram::blank(rt.alloc())?;
+        fram.poke(0x4000, 7);
+        fram.poke(0xfffe, 8);
+        for (address, word) in [(0, 0), (0x3ffe, 0), (0x4000, 7), (0x4002, 0), (0xfffe, 8)] {
+            assert_eq!(rt; fram.get(address), word, "at {address}");
+            assert_eq!(rt; fram.word(address), word, "at {address}");
+        }
+        Ok(())
+    }
+}

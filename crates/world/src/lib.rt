@@ -1,0 +1,6 @@
+//! What outlives the program: the history of a run.
+#![tactic(auto)]
+
+mod history;
+
+pub use history::{History, Record, Shown};
