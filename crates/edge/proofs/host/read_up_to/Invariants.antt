@@ -1,0 +1,6 @@
+-- not more than the limit so far
+use Rattle.std.proofs.Common.{◌≤◌, vec_len}
+use Rattle.edge.proofs.host.read_up_to.Given as goal
+
+abbrev pub invariant-loop : goal.invariant-loop
+invariant-loop g l = vec_len l.bytes ≤ l.limit
