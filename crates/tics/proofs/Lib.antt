@@ -1,0 +1,10 @@
+pub mod Tests
+pub mod ScanLaws
+pub mod ScanTurns
+pub mod NumberLaws
+pub mod ProgramLaws
+pub mod Turns
+pub mod RunLaws
+pub mod CommandLaws
+pub mod PrintLaws
+pub mod OutcomeLaws

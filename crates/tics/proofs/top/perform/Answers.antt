@@ -1,0 +1,95 @@
+-- What each way through the program comes to.
+use Rattle.std.proofs.Common.{◌≡◌, ◌∙◌, ap, sym, subst, inl, inr, refl, Err, List, ℕ}
+use Rattle.std.specs.Prelude.{IsSomeAnd}
+use Rattle.std.specs.List.{concat}
+use Rattle.edge.specs.Told.{Appends}
+use Rattle.tics.specs.declared.outcome.Outcome.TheVariants.{Done, Usage, ReadFault, Unsupported}
+use Rattle.tics.specs.Command.{texts, command_of}
+use Rattle.tics.specs.Outcome.{Seen, IsText, usage, fault, unsupported, printed, Happened, HasRun, IsUnsupported, usage_text, fault_text, unsupported_text, report_of}
+use Rattle.tics.proofs.OutcomeLaws.{said_text, said_lines, at_command}
+use Rattle.tics.proofs.top.perform.Goals as goal
+
+pub returns-in_default-clause-happened : goal.returns-in_default-clause-happened
+returns-in_default-clause-happened g c =
+    let seen : Seen = record {
+      files = g.F.Files.contents c.args.files.now;
+      command = command_of (texts c.args.words.now);
+      faults = g.F.Files.faults c.args.files.now;
+      faults_after = g.F.Files.faults c.args.files.now;
+      last = g.F.Files.last c.args.files.now;
+      bytes = g.K.Sink.bytes c.args.out.now;
+      bytes_after = g.K.Sink.bytes c.put.new.self;
+      put_faults = g.K.Sink.faults c.args.out.now;
+      put_faults_after = g.K.Sink.faults c.put.new.self;
+      records = c.args.book.now.records;
+      records_after = c.args.book.now.records;
+    } in
+    subst (Happened seen) (sym c.said.ensures)
+    (said_text seen usage_text Usage c.put.result (usage c.in_default.ensures) (inl refl) (λ t. record { words = c.in_default.ensures; text = t; book = refl })
+    c.put.ensures.ok c.put.ensures.failed c.put.ensures.front c.put.ensures.no_memory)
+
+pub returns-in-Err-ReadFault-clause-happened : goal.returns-in-Err-ReadFault-clause-happened
+returns-in-Err-ReadFault-clause-happened g c =
+    let seen : Seen = record {
+      files = g.F.Files.contents c.args.files.now;
+      command = command_of (texts c.args.words.now);
+      faults = g.F.Files.faults c.args.files.now;
+      faults_after = g.F.Files.faults c.accept.new.files;
+      last = g.F.Files.last c.accept.new.files;
+      bytes = g.K.Sink.bytes c.args.out.now;
+      bytes_after = g.K.Sink.bytes c.put-in-Err-ReadFault.new.self;
+      put_faults = g.K.Sink.faults c.args.out.now;
+      put_faults_after = g.K.Sink.faults c.put-in-Err-ReadFault.new.self;
+      records = c.args.book.now.records;
+      records_after = c.args.book.now.records;
+    } in
+    let risen = c.in-Err-ReadFault.ensures.fault (ap Err c.in-Err-ReadFault.field-0-is) in
+    subst (Happened seen) (sym c.said-in-Err-ReadFault.ensures)
+    (said_text seen fault_text ReadFault c.put-in-Err-ReadFault.result (fault risen) (inl refl)
+    (λ t. record { risen = risen; named = at_command (command_of (texts c.args.words.now)) _ _ c.in-Some.ensures (c.in-Err-ReadFault.ensures.named (ap Err c.in-Err-ReadFault.field-0-is)); text = t; book = refl })
+    c.put-in-Err-ReadFault.ensures.ok c.put-in-Err-ReadFault.ensures.failed c.put-in-Err-ReadFault.ensures.front c.put-in-Err-ReadFault.ensures.no_memory)
+
+pub returns-in-Err-Unsupported-clause-happened : goal.returns-in-Err-Unsupported-clause-happened
+returns-in-Err-Unsupported-clause-happened g c =
+    let seen : Seen = record {
+      files = g.F.Files.contents c.args.files.now;
+      command = command_of (texts c.args.words.now);
+      faults = g.F.Files.faults c.args.files.now;
+      faults_after = g.F.Files.faults c.accept.new.files;
+      last = g.F.Files.last c.accept.new.files;
+      bytes = g.K.Sink.bytes c.args.out.now;
+      bytes_after = g.K.Sink.bytes c.put-in-Err-Unsupported.new.self;
+      put_faults = g.K.Sink.faults c.args.out.now;
+      put_faults_after = g.K.Sink.faults c.put-in-Err-Unsupported.new.self;
+      records = c.args.book.now.records;
+      records_after = c.args.book.now.records;
+    } in
+    let cause : IsSomeAnd (command_of (texts c.args.words.now)) (λ p. IsUnsupported (g.F.Files.contents c.args.files.now) p) =
+    at_command (command_of (texts c.args.words.now)) _ _ c.in-Some.ensures (c.in-Err-Unsupported.ensures.unsupported (ap Err c.in-Err-Unsupported.field-0-is)) in
+    subst (Happened seen) (sym c.said-in-Err-Unsupported.ensures)
+    (said_text seen unsupported_text Unsupported c.put-in-Err-Unsupported.result (unsupported cause) (inl refl) (λ t. record { cause = cause; text = t; book = refl })
+    c.put-in-Err-Unsupported.ensures.ok c.put-in-Err-Unsupported.ensures.failed c.put-in-Err-Unsupported.ensures.front c.put-in-Err-Unsupported.ensures.no_memory)
+
+pub returns-in-Ok-run_and_report-clause-happened : goal.returns-in-Ok-run_and_report-clause-happened
+returns-in-Ok-run_and_report-clause-happened g c =
+    let seen : Seen = record {
+      files = g.F.Files.contents c.args.files.now;
+      command = command_of (texts c.args.words.now);
+      faults = g.F.Files.faults c.args.files.now;
+      faults_after = g.F.Files.faults c.accept.new.files;
+      last = g.F.Files.last c.accept.new.files;
+      bytes = g.K.Sink.bytes c.args.out.now;
+      bytes_after = g.K.Sink.bytes c.print.new.out;
+      put_faults = g.K.Sink.faults c.args.out.now;
+      put_faults_after = g.K.Sink.faults c.print.new.out;
+      records = c.args.book.now.records;
+      records_after = c.run_and_report.new.book.records;
+    } in
+    let run : HasRun (g.F.Files.contents c.args.files.now) (command_of (texts c.args.words.now)) c.run_and_report.new.book.records c.in-Ok.program =
+    record { accepted = at_command (command_of (texts c.args.words.now)) _ _ c.in-Some.ensures c.in-Ok.ensures.ok; history = c.in-Ok-run_and_report.ensures.history } in
+    let text : concat c.as_slice.result.now ≡ report_of c.in-Ok.program = ap concat c.as_slice.ensures.value ∙ c.in-Ok-run_and_report.ensures.lines in
+    subst (Happened seen) (sym c.said-in-Ok-run_and_report.ensures)
+    (said_lines seen (concat c.as_slice.result.now) Done c.print.result
+    (subst (λ (t : List ℕ). IsText seen.files seen.command seen.faults seen.faults_after seen.records_after t) (sym text) (printed c.in-Ok.program run)) (inr (c.in-Ok.program, run))
+    (λ t. record { program = c.in-Ok.program; run = run; printed = subst (λ (x : List ℕ). Appends seen.bytes seen.bytes_after x) text t })
+    c.print.ensures.ok c.print.ensures.failed c.print.ensures.front)

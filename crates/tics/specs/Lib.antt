@@ -1,0 +1,9 @@
+pub mod Words
+pub mod Layout
+pub mod Form
+pub mod Reading
+pub mod Run
+pub mod Report
+pub mod Command
+pub mod Outcome
+pub mod Refusal

@@ -1,0 +1,119 @@
+ghost use Rattle.std.specs.Prelude.{◌≡◌, ◌≢◌, ◌<◌, ◌≤◌, ◌⊎◌, length, Some, IfOk, OnOk, IsErrOf};
+ghost use Rattle.edge.specs.Counts.{HasRisen};
+ghost use Rattle.tics.specs.declared.source.Program.{Program};
+ghost use Rattle.tics.specs.Form.{IsProgram, IsOfForm};
+ghost use Rattle.tics.specs.Outcome.{WhereTold, Accepts, IsUnsupported, plain_trace};
+
+use crate::source::{Program, program_in};
+use base16::NoMemory;
+use edge::{FileErr, Files};
+use std::alloc::Global;
+
+/// Most bytes of a source.
+const SOURCE_LIMIT: u32 = 262_144;
+
+/// Most bytes of a trace.
+const TRACE_LIMIT: u32 = 1_048_576;
+
+/// The one trace that is accepted.
+const PLAIN_TRACE: &[u8] = b"tics-trace 1\nrate 4000000\nperiod 4000000\ncycle 100000 0\n";
+
+/// Why a run does not come about.
+#[derive(Clone, Copy, Debug, PartialEq, Eq)]
+pub enum Refusal {
+    ReadFault,
+    Unsupported,
+    NoMemory,
+}
+
+impl From<NoMemory> for Refusal {
+    ghost use Rattle.std.specs.Prelude.{◌≡◌};
+    ghost use Rattle.tics.specs.declared.accept.Refusal.TheVariants.{NoMemory};
+
+    ghost from_gives = { λ _ e. e ≡ NoMemory };
+
+    fn from(_error: base16::NoMemory) -> Refusal {
+        Refusal::NoMemory
+    }
+}
+
+impl From<FileErr> for Refusal {
+    ghost use Rattle.std.specs.Prelude.{◌≡◌};
+    ghost use Rattle.tics.specs.Refusal.{refusal_of};
+
+    ghost from_gives = { λ e r. r ≡ refusal_of e };
+
+    fn from(error: FileErr) -> Refusal {
+        match error {
+            FileErr::Failed => Refusal::ReadFault,
+            FileErr::TooBig => Refusal::Unsupported,
+            FileErr::NoMemory => Refusal::NoMemory,
+        }
+    }
+}
+
+/// The program of a source file.
+fn read_source<F: Files>(alloc: Global, files: &mut F, name: &str) -> Result<Program, Refusal>
+    ensures form { IfOk result (λ program. IsProgram program) }
+    ensures told { IfOk result (λ program. WhereTold (F.contents files.old) name.now (λ text. (length text ≤ 262144) × IsOfForm text program)) }
+    ensures unsupported { IsErrOf result Refusal.Unsupported → WhereTold (F.contents files.old) name.now
+        (λ text. (262144 < length text) ⊎ ((program : Program) → IsOfForm text program → ⊥)) }
+    ensures fault { IsErrOf result Refusal.ReadFault → HasRisen (F.faults files.old) (F.faults files.new) }
+    ensures named { IsErrOf result Refusal.ReadFault → F.last files.new ≡ Some name.now }
+    ensures never_falls { F.faults files.old ≤ F.faults files.new }
+    ensures files { F.contents files.new ≡ F.contents files.old }
+{
+    let text = match files.read(alloc, name, SOURCE_LIMIT) {
+        Ok(text) => text,
+        Err(error) => return Err(Refusal::from(error)),
+    };
+    match program_in(alloc, text.as_slice()) {
+        Ok(Some(program)) => Ok(program),
+        Ok(None) => Err(Refusal::Unsupported),
+        Err(_) => Err(Refusal::NoMemory),
+    }
+}
+
+/// Tests that a trace file is the plain trace.
+fn read_trace<F: Files>(alloc: Global, files: &mut F, name: &str) -> Result<(), Refusal>
+    ensures told { OnOk result (WhereTold (F.contents files.old) name.now (λ text. text ≡ plain_trace)) }
+    ensures unsupported { IsErrOf result Refusal.Unsupported → WhereTold (F.contents files.old) name.now (λ text. text ≢ plain_trace) }
+    ensures fault { IsErrOf result Refusal.ReadFault → HasRisen (F.faults files.old) (F.faults files.new) }
+    ensures named { IsErrOf result Refusal.ReadFault → F.last files.new ≡ Some name.now }
+    ensures never_falls { F.faults files.old ≤ F.faults files.new }
+    ensures files { F.contents files.new ≡ F.contents files.old }
+{
+    let text = match files.read(alloc, name, TRACE_LIMIT) {
+        Ok(text) => text,
+        Err(error) => return Err(Refusal::from(error)),
+    };
+    if text.as_slice() == PLAIN_TRACE {
+        Ok(())
+    } else {
+        Err(Refusal::Unsupported)
+    }
+}
+
+/// The program of a source and a trace that are both accepted.
+pub fn accept<F: Files>(
+    alloc: Global,
+    files: &mut F,
+    source: &str,
+    trace: &str,
+) -> Result<Program, Refusal>
+    ensures ok { IfOk result (λ program. Accepts (F.contents files.old) (source.now, trace.now) program) }
+    ensures unsupported { IsErrOf result Refusal.Unsupported → IsUnsupported (F.contents files.old) (source.now, trace.now) }
+    ensures fault { IsErrOf result Refusal.ReadFault → HasRisen (F.faults files.old) (F.faults files.new) }
+    ensures named { IsErrOf result Refusal.ReadFault → (F.last files.new ≡ Some source.now) ⊎ (F.last files.new ≡ Some trace.now) }
+    ensures never_falls { F.faults files.old ≤ F.faults files.new }
+    ensures files { F.contents files.new ≡ F.contents files.old }
+{
+    let program = match read_source(alloc, files, source) {
+        Ok(program) => program,
+        Err(refusal) => return Err(refusal),
+    };
+    match read_trace(alloc, files, trace) {
+        Ok(()) => Ok(program),
+        Err(refusal) => Err(refusal),
+    }
+}
