@@ -1,8 +1,8 @@
 -- An instruction's first word: its fields, and that it stands in the table.
-use Rattle.std.proofs.Common.{◌≡◌, ◌≢◌, ℕ, ◌+◌, ◌-◌, ◌*◌, ◌/◌, ◌%◌, ◌<◌, ◌≤◌, refl, sym, ap, ◌∙◌, subst, arith, Bool, true, false, not, ◌&&◌, ◌||◌, Option, Some, None, List, [], ◌∷◌, ◌++◌, ◌⊎◌, inl, inr}
-use Rattle.std.proofs.lemmas.Bool.{ne_eqb, eq-eqb, lt-ltb, le-ltb, cases_eq, and_parts}
+use Rattle.std.proofs.Common.{◌≡◌, ◌≢◌, ℕ, ◌+◌, ◌*◌, ◌/◌, ◌%◌, ◌<◌, ◌≤◌, refl, ap, arith, Bool, true, false}
+use Rattle.std.proofs.lemmas.Bool.{ne_eqb, lt-ltb, le-ltb}
 use Rattle.std.proofs.lemmas.Bool.Decides.{nat_tests}
-use Rattle.std.specs.Prelude.{nat_eq, nat_lt, nat_le, if◌then◌else◌, ℤ, pos, negsuc, IsTrue}
+use Rattle.std.specs.Prelude.{nat_eq, nat_lt, ℤ, pos, negsuc, IsTrue}
 use Rattle.isa430.specs.declared.instr.TwoOp.{TwoOp}
 use Rattle.isa430.specs.declared.instr.TwoOp.TheVariants.{Mov, Add, Addc, Subc, Sub, Cmp, Bit, Bic, Bis, Xor, And}
 use Rattle.isa430.specs.declared.instr.OneOp.{OneOp}
@@ -15,9 +15,7 @@ use Rattle.isa430.specs.declared.instr.Src.{Src}
 use Rattle.isa430.specs.declared.instr.Src.TheVariants.{Reg, Indexed, Absolute, Indirect, Increment, Immediate, Constant}
 use Rattle.isa430.specs.declared.instr.Dst.{Dst}
 use Rattle.isa430.specs.declared.instr.Dst.TheVariants.{Reg as ToReg, Indexed as ToIndexed, Absolute as ToAbsolute}
-use Rattle.isa430.specs.declared.instr.Instr.{Instr}
-use Rattle.isa430.specs.declared.instr.Instr.TheVariants.{Two, One, Jump}
-use Rattle.isa430.specs.Table.{two_number, one_number, cond_number, two_listed, one_listed, in_table, two_of, one_of, cond_of, src_of, dst_of, offset_of, gen_mode, gen_register, src_mode, src_register, src_extension, src_size, dst_mode, dst_register, dst_extension, dst_size, offset_field, bit_of, first_word, code_of, two_instr, instr_of, decode_of, plain, src_formed, dst_formed, offset_formed, valid, WordsAt}
+use Rattle.isa430.specs.Table.{two_number, one_number, cond_number, two_of, one_of, cond_of, src_of, dst_of, offset_of, gen_mode, gen_register, src_mode, src_register, src_extension, dst_mode, dst_register, dst_extension, offset_field, bit_of, plain, src_formed, dst_formed, offset_formed, WordsAt}
 
 -- the fields of a first word of two operands
 pub record TwoFields (w o b s a m d : ℕ) : Type 0 where

@@ -1,3 +1,4 @@
 pub mod Fields
-pub mod Decode
-pub mod Encode
+pub mod InMemory
+pub mod Front
+pub mod Formats

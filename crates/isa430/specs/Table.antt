@@ -1,6 +1,6 @@
 -- The instruction table of the 16-bit core (MSP430 user's guide, 16-bit CPU, "Instruction Set" and "Addressing Modes"),
 -- less what this board has no use for. Everything is stated of the fields of the first word.
-use Rattle.std.specs.Prelude.{◌≡◌, ℕ, ◌+◌, ◌-◌, ◌*◌, ◌/◌, ◌%◌, Bool, true, not, ◌&&◌, ◌||◌, List, [], ◌∷◌, ◌++◌, Option, Some, None, if◌then◌else◌, nat_eq, nat_lt, nat_le, ℤ, pos, negsuc}
+use Rattle.std.specs.Prelude.{◌≡◌, ℕ, ◌+◌, ◌-◌, ◌*◌, ◌/◌, ◌%◌, Bool, true, not, ◌&&◌, ◌||◌, List, [], ◌∷◌, ◌++◌, Option, Some, None, if◌then◌else◌, nat_eq, nat_lt, nat_le, slice_index, ℤ, pos, negsuc}
 use Rattle.isa430.specs.declared.instr.TwoOp.{TwoOp}
 use Rattle.isa430.specs.declared.instr.TwoOp.TheVariants.{Mov, Add, Addc, Subc, Sub, Cmp, Bit, Bic, Bis, Xor, And}
 use Rattle.isa430.specs.declared.instr.OneOp.{OneOp}
@@ -292,6 +292,10 @@ instr_of w0 w1 w2 =
 
 unfoldable pub decode_of : ℕ → ℕ → ℕ → Option Instr
 decode_of w0 w1 w2 = if in_table w0 then Some (instr_of w0 w1 w2) else None
+
+-- the same of a list of three words
+abbrev pub decode_words : List ℕ → Option Instr
+decode_words ws = decode_of (slice_index ws 0) (slice_index ws 1) (slice_index ws 2)
 
 -- ---- which instructions there are
 

@@ -1,25 +1,18 @@
 -- The words of a valid instruction decode to it.
-use Rattle.std.proofs.Common.{◌≡◌, ◌≢◌, ℕ, ◌+◌, ◌-◌, ◌*◌, ◌/◌, ◌%◌, ◌<◌, ◌≤◌, refl, sym, ap, ◌∙◌, subst, arith, Bool, true, false, not, ◌&&◌, ◌||◌, Option, Some, None, List, [], ◌∷◌, ◌++◌, ◌⊎◌, inl, inr}
-use Rattle.std.proofs.lemmas.Bool.{ne_eqb, eq-eqb, lt-ltb, le-ltb, cases_eq, and_parts}
-use Rattle.std.proofs.lemmas.Bool.Decides.{nat_tests}
-use Rattle.std.specs.Prelude.{nat_eq, nat_lt, nat_le, if◌then◌else◌, ℤ, pos, negsuc, IsTrue}
+use Rattle.std.proofs.Common.{◌≡◌, ℕ, ◌+◌, ◌/◌, ◌%◌, ◌<◌, refl, sym, ap, ◌∙◌, subst, arith, Bool, true, false, Some, ◌++◌}
+use Rattle.std.proofs.lemmas.Bool.{lt-ltb, le-ltb, and_parts}
+use Rattle.std.specs.Prelude.{nat_eq, nat_lt, if◌then◌else◌, ℤ, IsTrue}
 use Rattle.isa430.specs.declared.instr.TwoOp.{TwoOp}
-use Rattle.isa430.specs.declared.instr.TwoOp.TheVariants.{Mov, Add, Addc, Subc, Sub, Cmp, Bit, Bic, Bis, Xor, And}
 use Rattle.isa430.specs.declared.instr.OneOp.{OneOp}
-use Rattle.isa430.specs.declared.instr.OneOp.TheVariants.{Rrc, Swpb, Rra, Sxt, Push, Call}
 use Rattle.isa430.specs.declared.instr.Cond.{Cond}
-use Rattle.isa430.specs.declared.instr.Cond.TheVariants.{Nz, Z, Nc, C, N, Ge, Less, Always}
-use Rattle.isa430.specs.declared.instr.Gen.{Gen}
-use Rattle.isa430.specs.declared.instr.Gen.TheVariants.{Zero, One as ConstantOne, Two as ConstantTwo, Four, Eight, MinusOne}
 use Rattle.isa430.specs.declared.instr.Src.{Src}
 use Rattle.isa430.specs.declared.instr.Src.TheVariants.{Reg, Indexed, Absolute, Indirect, Increment, Immediate, Constant}
 use Rattle.isa430.specs.declared.instr.Dst.{Dst}
 use Rattle.isa430.specs.declared.instr.Dst.TheVariants.{Reg as ToReg, Indexed as ToIndexed, Absolute as ToAbsolute}
 use Rattle.isa430.specs.declared.instr.Instr.{Instr}
 use Rattle.isa430.specs.declared.instr.Instr.TheVariants.{Two, One, Jump}
-use Rattle.isa430.specs.Table.{two_number, one_number, cond_number, two_listed, one_listed, in_table, two_of, one_of, cond_of, src_of, dst_of, offset_of, gen_mode, gen_register, src_mode, src_register, src_extension, src_size, dst_mode, dst_register, dst_extension, dst_size, offset_field, bit_of, first_word, code_of, two_instr, instr_of, decode_of, plain, src_formed, dst_formed, offset_formed, valid, WordsAt}
-
-use Rattle.isa430.proofs.Fields.{TwoFields, OneFields, two_fields, one_fields, two_back, one_back, cond_back, byte_back, offset_back, src_ranges, dst_ranges, src_back, dst_back, plain_parts}
+use Rattle.isa430.specs.Table.{two_number, one_number, cond_number, two_listed, one_listed, in_table, two_of, one_of, src_of, dst_of, src_mode, src_register, src_extension, src_size, dst_mode, dst_register, dst_extension, offset_field, bit_of, first_word, code_of, instr_of, decode_of, src_formed, dst_formed, offset_formed, valid, WordsAt}
+use Rattle.isa430.proofs.Fields.{TwoFields, OneFields, two_fields, one_fields, two_back, one_back, cond_back, byte_back, offset_back, src_ranges, dst_ranges, src_back, dst_back}
 
 -- the words after the first, an operand each
 record Extensions (m : ℕ → ℕ) (a : ℕ) (s : Src) (d : Dst) : Type 0 where
@@ -49,7 +42,7 @@ lone_extension m a (Increment r) h = tt
 lone_extension m a (Immediate x) h = (h.0, tt)
 lone_extension m a (Constant g) h = tt
 
-decode_from : (w0 w1 w2 : ℕ) (i : Instr) → in_table w0 ≡ true → instr_of w0 w1 w2 ≡ i → decode_of w0 w1 w2 ≡ Some i
+pub decode_from : (w0 w1 w2 : ℕ) (i : Instr) → in_table w0 ≡ true → instr_of w0 w1 w2 ≡ i → decode_of w0 w1 w2 ≡ Some i
 unfolding decode_of
 decode_from w0 w1 w2 i t e = simp t (ap Some e)
 
@@ -116,3 +109,6 @@ decodes (One op byte s) m a v h =
     let p = and_parts _ _ v in
     decodes_one op byte s m a p.0 p.1 h
 decodes (Jump c o) m a v h = decodes_jump c o (m a) (m (a + 2)) (m (a + 2 + 2)) v h.0
+
+pub destination_register : (op : TwoOp) (byte : Bool) (s : Src) (d : Dst) → IsTrue (valid (Two op byte s d)) → dst_register d < 16
+destination_register op byte s d v = (dst_ranges d (and_parts _ _ (and_parts _ _ v).1).0).0

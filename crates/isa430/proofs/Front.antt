@@ -1,26 +1,20 @@
 -- What is decoded is valid, and its words are those that were decoded.
-use Rattle.std.proofs.Common.{◌≡◌, ◌≢◌, ℕ, ◌+◌, ◌-◌, ◌*◌, ◌/◌, ◌%◌, ◌<◌, ◌≤◌, refl, sym, ap, ◌∙◌, subst, arith, Bool, true, false, not, ◌&&◌, ◌||◌, Option, Some, None, List, [], ◌∷◌, ◌++◌, ◌⊎◌, inl, inr}
-use Rattle.std.proofs.lemmas.Bool.{ne_eqb, eq-eqb, lt-ltb, le-ltb, cases_eq, cases_lt, and_parts, eqb-true}
+use Rattle.std.proofs.Common.{◌≡◌, ℕ, ◌+◌, ◌*◌, ◌/◌, ◌%◌, ◌<◌, ◌≤◌, refl, ap, ◌∙◌, arith, Bool, true, false, not, ◌&&◌, [], ◌∷◌, ◌++◌, ◌⊎◌, inl, inr}
+use Rattle.std.proofs.lemmas.Bool.{lt-ltb, le-ltb, cases_lt, and_parts, eqb-true}
 use Rattle.std.proofs.lemmas.Bool.Decides.{nat_tests}
-use Rattle.std.specs.Prelude.{nat_eq, nat_lt, nat_le, if◌then◌else◌, ℤ, pos, negsuc, IsTrue}
+use Rattle.std.specs.Prelude.{nat_eq, nat_lt, if◌then◌else◌, ℤ, IsTrue}
 use Rattle.isa430.specs.declared.instr.TwoOp.{TwoOp}
-use Rattle.isa430.specs.declared.instr.TwoOp.TheVariants.{Mov, Add, Addc, Subc, Sub, Cmp, Bit, Bic, Bis, Xor, And}
 use Rattle.isa430.specs.declared.instr.OneOp.{OneOp}
-use Rattle.isa430.specs.declared.instr.OneOp.TheVariants.{Rrc, Swpb, Rra, Sxt, Push, Call}
 use Rattle.isa430.specs.declared.instr.Cond.{Cond}
-use Rattle.isa430.specs.declared.instr.Cond.TheVariants.{Nz, Z, Nc, C, N, Ge, Less, Always}
-use Rattle.isa430.specs.declared.instr.Gen.{Gen}
-use Rattle.isa430.specs.declared.instr.Gen.TheVariants.{Zero, One as ConstantOne, Two as ConstantTwo, Four, Eight, MinusOne}
 use Rattle.isa430.specs.declared.instr.Src.{Src}
 use Rattle.isa430.specs.declared.instr.Src.TheVariants.{Reg, Indexed, Absolute, Indirect, Increment, Immediate, Constant}
 use Rattle.isa430.specs.declared.instr.Dst.{Dst}
 use Rattle.isa430.specs.declared.instr.Dst.TheVariants.{Reg as ToReg, Indexed as ToIndexed, Absolute as ToAbsolute}
 use Rattle.isa430.specs.declared.instr.Instr.{Instr}
 use Rattle.isa430.specs.declared.instr.Instr.TheVariants.{Two, One, Jump}
-use Rattle.isa430.specs.Table.{two_number, one_number, cond_number, two_listed, one_listed, in_table, two_of, one_of, cond_of, src_of, dst_of, offset_of, gen_mode, gen_register, src_mode, src_register, src_extension, src_size, dst_mode, dst_register, dst_extension, dst_size, offset_field, bit_of, first_word, code_of, two_instr, instr_of, decode_of, plain, src_formed, dst_formed, offset_formed, valid, WordsAt}
-
-use Rattle.std.specs.Prelude.{length, take, slice_index}
-use Rattle.isa430.specs.Table.{two_number_listed, source_listed, destination_listed, raises, to_register_listed, changed_listed, status_source, second_constant, size_of}
+use Rattle.isa430.specs.Table.{two_number, one_number, cond_number, two_listed, one_listed, in_table, two_of, one_of, cond_of, src_of, dst_of, offset_of, src_mode, src_register, src_extension, src_size, dst_mode, dst_register, dst_extension, dst_size, offset_field, bit_of, first_word, code_of, two_instr, instr_of, src_formed, dst_formed, offset_formed, valid, WordsAt}
+use Rattle.std.specs.Prelude.{take}
+use Rattle.isa430.specs.Table.{two_number_listed, source_listed, destination_listed, changed_listed, size_of}
 
 -- ---- operators, conditions and offsets
 

@@ -1,0 +1,8 @@
+use Rattle.isa430.proofs.Formats.{decoded, decoded_words}
+use Rattle.isa430.proofs.laws.encode_of_decode.Goals as goal
+
+pub returns-clause-valid : goal.returns-clause-valid
+returns-clause-valid c = λ w0 w1 w2 i e. (decoded w0 w1 w2 i e).is_valid
+
+pub returns-clause-words : goal.returns-clause-words
+returns-clause-words c = λ w0 w1 w2 i e. decoded_words w0 w1 w2 i e
