@@ -102,8 +102,8 @@ one_listed op byte mode r =
 -- from 0100 in bits 15 to 12 on there are two operands
 abbrev pub in_table : ℕ → Bool
 in_table w =
-    if nat_lt w 8192 then nat_eq (w / 1024) 4 && one_listed (w / 128 % 8) (nat_eq (w / 64 % 2) 1) (w / 16 % 4) (w % 16)
-    else (if nat_lt w 16384 then true
+    if nat_lt w 0x2000 then nat_eq (w / 1024) 4 && one_listed (w / 128 % 8) (nat_eq (w / 64 % 2) 1) (w / 16 % 4) (w % 16)
+    else (if nat_lt w 0x4000 then true
     else two_listed (w / 4096) (nat_eq (w / 64 % 2) 1) (w / 16 % 4) (w / 256 % 16) (w / 128 % 2) (w % 16))
 
 -- ---- what the fields mean. Only fields in the table are read, so a last case stands for one number alone
@@ -260,8 +260,8 @@ bit_of b = if b then 1 else 0
 abbrev pub first_word : Instr → ℕ
 first_word (Two op byte src dst) =
     two_number op * 4096 + src_register src * 256 + dst_mode dst * 128 + bit_of byte * 64 + src_mode src * 16 + dst_register dst
-first_word (One op byte src) = 4096 + one_number op * 128 + bit_of byte * 64 + src_mode src * 16 + src_register src
-first_word (Jump cond offset) = 8192 + cond_number cond * 1024 + offset_field offset
+first_word (One op byte src) = 0x1000 + one_number op * 128 + bit_of byte * 64 + src_mode src * 16 + src_register src
+first_word (Jump cond offset) = 0x2000 + cond_number cond * 1024 + offset_field offset
 
 -- ---- the table's two sides
 
@@ -286,8 +286,8 @@ two_instr w0 src w1 w2 =
 -- the instruction that three words begin with, if the first word is in the table
 abbrev pub instr_of : ℕ → ℕ → ℕ → Instr
 instr_of w0 w1 w2 =
-    if nat_lt w0 8192 then One (one_of (w0 / 128 % 8)) (nat_eq (w0 / 64 % 2) 1) (src_of (w0 / 16 % 4) (w0 % 16) w1)
-    else (if nat_lt w0 16384 then Jump (cond_of (w0 / 1024 % 8)) (offset_of (w0 % 1024))
+    if nat_lt w0 0x2000 then One (one_of (w0 / 128 % 8)) (nat_eq (w0 / 64 % 2) 1) (src_of (w0 / 16 % 4) (w0 % 16) w1)
+    else (if nat_lt w0 0x4000 then Jump (cond_of (w0 / 1024 % 8)) (offset_of (w0 % 1024))
     else two_instr w0 (src_of (w0 / 16 % 4) (w0 / 256 % 16) w1) w1 w2)
 
 unfoldable pub decode_of : ℕ → ℕ → ℕ → Option Instr

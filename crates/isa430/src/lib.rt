@@ -11,3 +11,6 @@ pub use from_words::decode;
 pub use instr::{Code, Cond, Dst, Gen, Instr, OneOp, Src, TwoOp};
 pub use laws::{decode_of_encode, encode_of_decode};
 pub use to_words::{encode, valid};
+
+#[cfg(test)]
+mod tests;
