@@ -1,5 +1,5 @@
 -- What decoding answers, format by format, and what follows from an answer.
-use Rattle.std.proofs.Common.{◌≡◌, ℕ, ◌*◌, ◌/◌, ◌%◌, ◌<◌, ◌≤◌, refl, sym, ap, ◌∙◌, subst, arith, Bool, true, false, ◌&&◌, Option, Some, None, List, [], ◌∷◌}
+use Rattle.std.proofs.Common.{◌≡◌, ℕ, ◌+◌, ◌*◌, ◌/◌, ◌%◌, ◌<◌, ◌≤◌, refl, sym, ap, ◌∙◌, subst, arith, Bool, true, false, ◌&&◌, Option, Some, None, List, [], ◌∷◌, ◌++◌}
 use Rattle.std.proofs.lemmas.Bool.{lt-ltb, le-ltb}
 use Rattle.std.specs.Prelude.{nat_eq, nat_lt, if◌then◌else◌, IsTrue}
 use Rattle.isa430.specs.declared.instr.Src.{Src}
@@ -11,8 +11,9 @@ use Rattle.isa430.specs.declared.instr.Instr.TheVariants.{Two, One, Jump}
 use Rattle.isa430.specs.Table.{two_listed, one_listed, in_table, one_of, cond_of, src_of, offset_of, src_extension, src_size, dst_extension, dst_size, code_of, two_instr, instr_of, decode_of, valid}
 use Rattle.std.proofs.Common.{length-append}
 use Rattle.std.specs.Prelude.{length, take, slice_index, MatchOption, IfSome, IsSome, ◌↔◌}
-use Rattle.isa430.specs.Table.{size_of}
+use Rattle.isa430.specs.Table.{size_of, decode_words, WordsAt}
 use Rattle.isa430.specs.Laws.{BeginWith}
+use Rattle.isa430.proofs.InMemory.{decodes}
 use Rattle.isa430.proofs.InMemory.{decode_from}
 use Rattle.isa430.proofs.Front.{Reads, reads}
 
@@ -91,6 +92,51 @@ code_size (Jump c o) = refl
 
 pub decoded_words : (w0 w1 w2 : ℕ) (i : Instr) → decode_of w0 w1 w2 ≡ Some i → BeginWith w0 w1 w2 i
 decoded_words w0 w1 w2 i e = (decoded w0 w1 w2 i e).words (length (code_of i)) (code_size i)
+
+-- the words of an instruction, wherever it was decoded
+first_words : (m : ℕ → ℕ) (a : ℕ) (ws : List ℕ) → take (length ws) (m a ∷ m (a + 2) ∷ m (a + 2 + 2) ∷ []) ≡ ws → WordsAt m a ws
+first_words m a [] e = tt
+first_words m a (x ∷ []) e = (cc, tt)
+first_words m a (x ∷ y ∷ []) e = (cc, (cc, tt))
+first_words m a (x ∷ y ∷ z ∷ []) e = (cc, (cc, (cc, tt)))
+first_words m a (x ∷ y ∷ z ∷ v ∷ ws) e = absurd (too_long (m a) (m (a + 2)) (m (a + 2 + 2)) x y z v ws e)
+  where
+    too_long : (w0 w1 w2 x y z v : ℕ) (ws : List ℕ) → take (length (x ∷ y ∷ z ∷ v ∷ ws)) (w0 ∷ w1 ∷ w2 ∷ []) ≡ x ∷ y ∷ z ∷ v ∷ ws → ⊥
+    too_long w0 w1 w2 x y z v ws e = cc
+
+pub stands : (m : ℕ → ℕ) (a : ℕ) (i : Instr) → decode_of (m a) (m (a + 2)) (m (a + 2 + 2)) ≡ Some i → WordsAt m a (code_of i)
+stands m a i e = first_words m a (code_of i) (decoded_words (m a) (m (a + 2)) (m (a + 2 + 2)) i e)
+
+-- ---- the words of an instruction in a list
+
+src_size_small : (s : Src) → src_size s ≤ 2
+src_size_small (Reg r) = omega arith
+src_size_small (Indexed r x) = omega arith
+src_size_small (Absolute a) = omega arith
+src_size_small (Indirect r) = omega arith
+src_size_small (Increment r) = omega arith
+src_size_small (Immediate v) = omega arith
+src_size_small (Constant g) = omega arith
+
+dst_size_small : (d : Dst) → dst_size d ≤ 2
+dst_size_small (ToReg r) = omega arith
+dst_size_small (ToIndexed r x) = omega arith
+dst_size_small (ToAbsolute a) = omega arith
+
+size_small : (i : Instr) → size_of i ≤ 6
+size_small (Two op byte s d) = omega (arith, src_size_small s, dst_size_small d)
+size_small (One op byte s) = omega (arith, src_size_small s)
+size_small (Jump c o) = omega arith
+
+in_list : (ws rest : List ℕ) → length ws ≤ 3 → WordsAt (λ a. slice_index (ws ++ rest) (a / 2)) 0 ws
+in_list [] rest l = tt
+in_list (x ∷ []) rest l = (refl, tt)
+in_list (x ∷ y ∷ []) rest l = (refl, (refl, tt))
+in_list (x ∷ y ∷ z ∷ []) rest l = (refl, (refl, (refl, tt)))
+in_list (x ∷ y ∷ z ∷ v ∷ ws) rest l = absurd (omega arith)
+
+pub decodes_list : (i : Instr) (rest : List ℕ) → IsTrue (valid i) → decode_words (code_of i ++ rest) ≡ Some i
+decodes_list i rest v = decodes i (λ a. slice_index (code_of i ++ rest) (a / 2)) 0 v (in_list (code_of i) rest (omega (arith, size_small i, code_size i)))
 
 -- ---- the clauses of the call, of an answer r that holds an instruction f d
 

@@ -1,6 +1,6 @@
 ghost use Rattle.std.specs.Prelude.{◌≡◌, ◌+◌, ◌-◌, ◌*◌, ◌<◌, ◌≤◌, ◌++◌, ◌∷◌, replicate, length, IsTrue};
 ghost use Rattle.std.specs.Option.{option_to_list};
-ghost use Rattle.isa430.specs.Table.{two_number, one_number, cond_number, gen_mode, gen_register, src_mode, src_register, src_extension, dst_mode, dst_register, dst_extension, offset_field, bit_of, first_word, code_of, size_of, plain, src_formed, dst_formed, offset_formed};
+ghost use Rattle.isa430.specs.Table.{two_number, one_number, cond_number, gen_mode, gen_register, src_mode, src_register, src_extension, dst_mode, dst_register, dst_extension, offset_field, bit_of, first_word, code_of, decode_words, size_of, plain, src_formed, dst_formed, offset_formed};
 ghost use Rattle.isa430.specs.Table.{valid as valid_instr};
 ghost use Rattle.isa430.specs.Laws.{IsReadBack};
 
@@ -236,15 +236,11 @@ fn jump_first(cond: Cond, offset: i16) -> u16
     8192 + cond_field(cond) as u16 * 1024 + field
 }
 
-/// The words of a valid instruction, followed by zeros. `len` counts words, from 1 to 3.
-pub fn encode(instr: &Instr) -> Code
+fn assemble(instr: &Instr) -> Code
     requires { IsTrue (valid_instr instr.now) }
     ensures words { result.words ≡ code_of instr.now ++ replicate (3 - result.len) 0 }
     ensures len { result.len ≡ length (code_of instr.now) }
     ensures size { 2 * result.len ≡ size_of instr.now }
-
-    // Wherever these words stand, they decode to the instruction, whatever follows.
-    ensures back { IsReadBack instr.now }
 {
     match *instr {
         Instr::Two { op, byte, src, dst } => code(
@@ -255,4 +251,18 @@ pub fn encode(instr: &Instr) -> Code
         Instr::One { op, byte, src } => code(one_first(op, byte, src), source_extension(src), None),
         Instr::Jump { cond, offset } => code(jump_first(cond, offset), None, None),
     }
+}
+
+/// The words of a valid instruction, followed by zeros. `len` counts words, from 1 to 3.
+pub fn encode(instr: &Instr) -> Code
+    requires { IsTrue (valid_instr instr.now) }
+    ensures words { result.words ≡ code_of instr.now ++ replicate (3 - result.len) 0 }
+    ensures len { result.len ≡ length (code_of instr.now) }
+    ensures size { 2 * result.len ≡ size_of instr.now }
+
+    // These words decode to the instruction, also wherever they stand and whatever follows them.
+    ensures decoded { decode_words result.words ≡ Some instr.now }
+    ensures back { IsReadBack instr.now }
+{
+    assemble(instr)
 }
