@@ -1,14 +1,14 @@
 -- What decoding answers, format by format, and what follows from an answer.
-use Rattle.std.proofs.Common.{◌≡◌, ℕ, ◌+◌, ◌*◌, ◌/◌, ◌%◌, ◌<◌, ◌≤◌, refl, sym, ap, ◌∙◌, subst, arith, Bool, true, false, ◌&&◌, Option, Some, None, List, [], ◌∷◌, ◌++◌}
+use Rattle.std.proofs.Common.{◌≡◌, ℕ, ◌+◌, ◌*◌, ◌/◌, ◌<◌, ◌≤◌, refl, sym, ap, ◌∙◌, subst, arith, Bool, true, false, Option, Some, None, List, [], ◌∷◌, ◌++◌}
 use Rattle.std.proofs.lemmas.Bool.{lt-ltb, le-ltb}
-use Rattle.std.specs.Prelude.{nat_eq, nat_lt, if◌then◌else◌, IsTrue}
+use Rattle.std.specs.Prelude.{nat_lt, if◌then◌else◌, IsTrue}
 use Rattle.isa430.specs.declared.instr.Src.{Src}
 use Rattle.isa430.specs.declared.instr.Src.TheVariants.{Reg, Indexed, Absolute, Indirect, Increment, Immediate, Constant}
 use Rattle.isa430.specs.declared.instr.Dst.{Dst}
 use Rattle.isa430.specs.declared.instr.Dst.TheVariants.{Reg as ToReg, Indexed as ToIndexed, Absolute as ToAbsolute}
 use Rattle.isa430.specs.declared.instr.Instr.{Instr}
 use Rattle.isa430.specs.declared.instr.Instr.TheVariants.{Two, One, Jump}
-use Rattle.isa430.specs.Table.{two_listed, one_listed, in_table, one_of, cond_of, src_of, offset_of, src_extension, src_size, dst_extension, dst_size, code_of, two_instr, instr_of, decode_of, valid}
+use Rattle.isa430.specs.Table.{two_word_listed, one_word_listed, one_instr, jump_instr, in_table, src_extension, src_size, dst_extension, dst_size, code_of, two_instr, instr_of, decode_of, valid}
 use Rattle.std.proofs.Common.{length-append}
 use Rattle.std.specs.Prelude.{length, take, slice_index, MatchOption, IfSome, IsSome, ◌↔◌}
 use Rattle.isa430.specs.Table.{size_of, decode_words, WordsAt}
@@ -23,29 +23,29 @@ decode_none : (w0 w1 w2 : ℕ) → in_table w0 ≡ false → decode_of w0 w1 w2 
 unfolding decode_of
 decode_none w0 w1 w2 t = simp t
 
-pub one_is : (w0 w1 w2 : ℕ) (i : Instr) → w0 < 8192 → (nat_eq (w0 / 1024) 4 && one_listed (w0 / 128 % 8) (nat_eq (w0 / 64 % 2) 1) (w0 / 16 % 4) (w0 % 16)) ≡ true → i ≡ One (one_of (w0 / 128 % 8)) (nat_eq (w0 / 64 % 2) 1) (src_of (w0 / 16 % 4) (w0 % 16) w1) → decode_of w0 w1 w2 ≡ Some i
+pub one_is : (w0 w1 w2 : ℕ) (i : Instr) → w0 < 8192 → one_word_listed w0 ≡ true → i ≡ one_instr w0 w1 → decode_of w0 w1 w2 ≡ Some i
 one_is w0 w1 w2 i l t e =
     let h : nat_lt w0 8192 ≡ true = lt-ltb w0 8192 l in
     decode_from w0 w1 w2 i (simp h t) (simp h (sym e))
 
-pub one_none : (w0 w1 w2 : ℕ) → w0 < 8192 → (nat_eq (w0 / 1024) 4 && one_listed (w0 / 128 % 8) (nat_eq (w0 / 64 % 2) 1) (w0 / 16 % 4) (w0 % 16)) ≡ false → decode_of w0 w1 w2 ≡ None
+pub one_none : (w0 w1 w2 : ℕ) → w0 < 8192 → one_word_listed w0 ≡ false → decode_of w0 w1 w2 ≡ None
 one_none w0 w1 w2 l t =
     let h : nat_lt w0 8192 ≡ true = lt-ltb w0 8192 l in
     decode_none w0 w1 w2 (simp h t)
 
-pub jump_is : (w0 w1 w2 : ℕ) (i : Instr) → 8192 ≤ w0 → w0 < 16384 → i ≡ Jump (cond_of (w0 / 1024 % 8)) (offset_of (w0 % 1024)) → decode_of w0 w1 w2 ≡ Some i
+pub jump_is : (w0 w1 w2 : ℕ) (i : Instr) → 8192 ≤ w0 → w0 < 16384 → i ≡ jump_instr w0 → decode_of w0 w1 w2 ≡ Some i
 jump_is w0 w1 w2 i l u e =
     let h : nat_lt w0 8192 ≡ false = le-ltb w0 8192 l in
     let k : nat_lt w0 16384 ≡ true = lt-ltb w0 16384 u in
     decode_from w0 w1 w2 i (simp (h, k)) (simp (h, k) (sym e))
 
-pub two_is : (w0 w1 w2 : ℕ) (i : Instr) → 16384 ≤ w0 → two_listed (w0 / 4096) (nat_eq (w0 / 64 % 2) 1) (w0 / 16 % 4) (w0 / 256 % 16) (w0 / 128 % 2) (w0 % 16) ≡ true → i ≡ two_instr w0 (src_of (w0 / 16 % 4) (w0 / 256 % 16) w1) w1 w2 → decode_of w0 w1 w2 ≡ Some i
+pub two_is : (w0 w1 w2 : ℕ) (i : Instr) → 16384 ≤ w0 → two_word_listed w0 ≡ true → i ≡ two_instr w0 w1 w2 → decode_of w0 w1 w2 ≡ Some i
 two_is w0 w1 w2 i l t e =
     let h : nat_lt w0 8192 ≡ false = le-ltb w0 8192 (omega arith) in
     let k : nat_lt w0 16384 ≡ false = le-ltb w0 16384 l in
     decode_from w0 w1 w2 i (simp (h, k) t) (simp (h, k) (sym e))
 
-pub two_none : (w0 w1 w2 : ℕ) → 16384 ≤ w0 → two_listed (w0 / 4096) (nat_eq (w0 / 64 % 2) 1) (w0 / 16 % 4) (w0 / 256 % 16) (w0 / 128 % 2) (w0 % 16) ≡ false → decode_of w0 w1 w2 ≡ None
+pub two_none : (w0 w1 w2 : ℕ) → 16384 ≤ w0 → two_word_listed w0 ≡ false → decode_of w0 w1 w2 ≡ None
 two_none w0 w1 w2 l t =
     let h : nat_lt w0 8192 ≡ false = le-ltb w0 8192 (omega arith) in
     let k : nat_lt w0 16384 ≡ false = le-ltb w0 16384 l in

@@ -12,7 +12,7 @@ use Rattle.isa430.specs.declared.instr.Dst.{Dst}
 use Rattle.isa430.specs.declared.instr.Dst.TheVariants.{Reg as ToReg, Indexed as ToIndexed, Absolute as ToAbsolute}
 use Rattle.isa430.specs.declared.instr.Instr.{Instr}
 use Rattle.isa430.specs.declared.instr.Instr.TheVariants.{Two, One, Jump}
-use Rattle.isa430.specs.Table.{two_number, one_number, cond_number, two_listed, one_listed, in_table, two_of, one_of, cond_of, src_of, dst_of, offset_of, src_mode, src_register, src_extension, src_size, dst_mode, dst_register, dst_extension, dst_size, offset_field, bit_of, first_word, code_of, two_instr, instr_of, src_formed, dst_formed, offset_formed, valid, WordsAt}
+use Rattle.isa430.specs.Table.{two_word_listed, one_instr, jump_instr, two_number, one_number, cond_number, two_listed, one_listed, in_table, two_of, one_of, cond_of, src_of, dst_of, offset_of, src_mode, src_register, src_extension, src_size, dst_mode, dst_register, dst_extension, dst_size, offset_field, bit_of, first_word, code_of, two_instr, instr_of, src_formed, dst_formed, offset_formed, valid, WordsAt}
 use Rattle.std.specs.Prelude.{take}
 use Rattle.isa430.specs.Table.{two_number_listed, source_listed, destination_listed, changed_listed, size_of}
 
@@ -97,7 +97,7 @@ valid_two op byte s d o m r a q hs hd eo em er ea eq t = simp (hs, hd, eo, em, e
 valid_one : (op : OneOp) (byte : Bool) (s : Src) (o m r : ℕ) → src_formed s ≡ true → one_number op ≡ o → src_mode s ≡ m → src_register s ≡ r → one_listed o byte m r ≡ true → valid (One op byte s) ≡ true
 valid_one op byte s o m r hs eo em er t = simp (hs, eo, em, er) t
 
-two_reads : (w0 w1 w2 : ℕ) → two_listed (w0 / 4096) (nat_eq (w0 / 64 % 2) 1) (w0 / 16 % 4) (w0 / 256 % 16) (w0 / 128 % 2) (w0 % 16) ≡ true → Reads w0 w1 w2 (two_instr w0 (src_of (w0 / 16 % 4) (w0 / 256 % 16) w1) w1 w2)
+two_reads : (w0 w1 w2 : ℕ) → two_word_listed w0 ≡ true → Reads w0 w1 w2 (two_instr w0 w1 w2)
 two_reads w0 w1 w2 t =
     let lm : w0 / 16 % 4 < 4 = omega arith in
     let lr : w0 / 256 % 16 < 16 = omega arith in
@@ -125,7 +125,7 @@ two_reads w0 w1 w2 t =
 listed_below : (o : ℕ) (b c : Bool) → (if nat_lt o 4 then b else nat_lt o 6 && c) ≡ true → o < 6
 listed_below o b c h = grind (arith, nat_tests)
 
-one_reads : (w0 w1 w2 : ℕ) → w0 / 1024 ≡ 4 → one_listed (w0 / 128 % 8) (nat_eq (w0 / 64 % 2) 1) (w0 / 16 % 4) (w0 % 16) ≡ true → Reads w0 w1 w2 (One (one_of (w0 / 128 % 8)) (nat_eq (w0 / 64 % 2) 1) (src_of (w0 / 16 % 4) (w0 % 16) w1))
+one_reads : (w0 w1 w2 : ℕ) → w0 / 1024 ≡ 4 → one_listed (w0 / 128 % 8) (nat_eq (w0 / 64 % 2) 1) (w0 / 16 % 4) (w0 % 16) ≡ true → Reads w0 w1 w2 (one_instr w0 w1)
 one_reads w0 w1 w2 format t =
     let lm : w0 / 16 % 4 < 4 = omega arith in
     let lr : w0 % 16 < 16 = omega arith in
@@ -143,7 +143,7 @@ one_reads w0 w1 w2 format t =
       words = λ n e. let f : w0 ≡ first_word (One op byte s) = omega arith in front_one s w0 w1 w2 n hs.extension e ∙ ap (λ v. v ∷ src_extension s) f;
     }
 
-jump_reads : (w0 w1 w2 : ℕ) → 8192 ≤ w0 → w0 < 16384 → Reads w0 w1 w2 (Jump (cond_of (w0 / 1024 % 8)) (offset_of (w0 % 1024)))
+jump_reads : (w0 w1 w2 : ℕ) → 8192 ≤ w0 → w0 < 16384 → Reads w0 w1 w2 (jump_instr w0)
 jump_reads w0 w1 w2 l u =
     let hc = cond_forth (w0 / 1024 % 8) (omega arith) in
     let ho = offset_forth (w0 % 1024) (omega arith) in

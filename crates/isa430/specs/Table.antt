@@ -98,13 +98,20 @@ one_listed op byte mode r =
     && ((not byte || (nat_eq op 0 || nat_eq op 2))
     && (if nat_lt op 4 then changed_listed mode r else nat_lt op 6 && not (nat_eq r 1)))
 
--- first words, by their three formats: 000100 in bits 15 to 10 is one operand, 001 in bits 15 to 13 is a jump, and
--- from 0100 in bits 15 to 12 on there are two operands
+-- first words of two operands
+abbrev pub two_word_listed : ℕ → Bool
+two_word_listed w =
+    two_listed (w / 4096) (nat_eq (w / 64 % 2) 1) (w / 16 % 4) (w / 256 % 16) (w / 128 % 2) (w % 16)
+
+-- first words of one operand: 000100 in bits 15 to 10
+abbrev pub one_word_listed : ℕ → Bool
+one_word_listed w =
+    nat_eq (w / 1024) 4 && one_listed (w / 128 % 8) (nat_eq (w / 64 % 2) 1) (w / 16 % 4) (w % 16)
+
+-- first words, by their three formats: 000 in bits 15 to 13 is one operand, 001 is a jump, and the others are two operands
 abbrev pub in_table : ℕ → Bool
 in_table w =
-    if nat_lt w 0x2000 then nat_eq (w / 1024) 4 && one_listed (w / 128 % 8) (nat_eq (w / 64 % 2) 1) (w / 16 % 4) (w % 16)
-    else (if nat_lt w 0x4000 then true
-    else two_listed (w / 4096) (nat_eq (w / 64 % 2) 1) (w / 16 % 4) (w / 256 % 16) (w / 128 % 2) (w % 16))
+    if nat_lt w 0x2000 then one_word_listed w else (if nat_lt w 0x4000 then true else two_word_listed w)
 
 -- ---- what the fields mean. Only fields in the table are read, so a last case stands for one number alone
 
@@ -277,19 +284,29 @@ size_of (Two op byte src dst) = 2 + src_size src + dst_size dst
 size_of (One op byte src) = 2 + src_size src
 size_of (Jump cond offset) = 2
 
--- the instruction of two operands of these words
-abbrev pub two_instr : ℕ → Src → ℕ → ℕ → Instr
-two_instr w0 src w1 w2 =
+-- an instruction of two operands with this source: the word that the destination takes comes after the source's
+abbrev pub two_from : ℕ → Src → ℕ → ℕ → Instr
+two_from w0 src w1 w2 =
     Two (two_of (w0 / 4096)) (nat_eq (w0 / 64 % 2) 1) src
     (dst_of (w0 / 128 % 2) (w0 % 16) (if nat_eq (src_size src) 0 then w1 else w2))
 
--- the instruction that three words begin with, if the first word is in the table
+abbrev pub two_instr : ℕ → ℕ → ℕ → Instr
+two_instr w0 w1 w2 = two_from w0 (src_of (w0 / 16 % 4) (w0 / 256 % 16) w1) w1 w2
+
+abbrev pub one_instr : ℕ → ℕ → Instr
+one_instr w0 w1 =
+    One (one_of (w0 / 128 % 8)) (nat_eq (w0 / 64 % 2) 1) (src_of (w0 / 16 % 4) (w0 % 16) w1)
+
+abbrev pub jump_instr : ℕ → Instr
+jump_instr w0 = Jump (cond_of (w0 / 1024 % 8)) (offset_of (w0 % 1024))
+
+-- what three words say, if the first is in the table
 abbrev pub instr_of : ℕ → ℕ → ℕ → Instr
 instr_of w0 w1 w2 =
-    if nat_lt w0 0x2000 then One (one_of (w0 / 128 % 8)) (nat_eq (w0 / 64 % 2) 1) (src_of (w0 / 16 % 4) (w0 % 16) w1)
-    else (if nat_lt w0 0x4000 then Jump (cond_of (w0 / 1024 % 8)) (offset_of (w0 % 1024))
-    else two_instr w0 (src_of (w0 / 16 % 4) (w0 / 256 % 16) w1) w1 w2)
+    if nat_lt w0 0x2000 then one_instr w0 w1
+    else (if nat_lt w0 0x4000 then jump_instr w0 else two_instr w0 w1 w2)
 
+-- the instruction that three words begin with: none exactly where the first word is outside the table
 unfoldable pub decode_of : ℕ → ℕ → ℕ → Option Instr
 decode_of w0 w1 w2 = if in_table w0 then Some (instr_of w0 w1 w2) else None
 

@@ -1,5 +1,5 @@
-ghost use Rattle.std.specs.Prelude.{◌≡◌, ◌<◌, ◌≤◌, ◌*◌, ◌/◌, ◌%◌, ◌↔◌, false, ◌&&◌, nat_eq, if◌then◌else◌, take, slice_index, IsTrue, IsSome, IfSome, MatchOption};
-ghost use Rattle.isa430.specs.Table.{in_table, two_listed, one_listed, two_of, one_of, cond_of, second_constant, status_source, src_of, dst_of, offset_of, src_size, dst_size, size_of, code_of, decode_words, two_instr, instr_of};
+ghost use Rattle.std.specs.Prelude.{◌≡◌, ◌<◌, ◌*◌, ◌↔◌, take, slice_index, IsTrue, IsSome, IfSome, MatchOption};
+ghost use Rattle.isa430.specs.Table.{in_table, two_word_listed, one_word_listed, two_of, one_of, cond_of, second_constant, status_source, src_of, dst_of, offset_of, src_size, dst_size, size_of, code_of, decode_words, two_instr, one_instr, jump_instr};
 ghost use Rattle.isa430.specs.Table.{valid as valid_instr};
 
 use crate::instr::{Cond, Dst, Gen, Instr, OneOp, Src, TwoOp};
@@ -131,7 +131,7 @@ fn destination_words(dst: Dst) -> u8
 }
 
 fn read_two(words: &[u16; 3]) -> (Instr, u8)
-    ensures value { result.0 ≡ two_instr (slice_index words.now 0) (src_of (slice_index words.now 0 / 16 % 4) (slice_index words.now 0 / 256 % 16) (slice_index words.now 1)) (slice_index words.now 1) (slice_index words.now 2) }
+    ensures value { result.0 ≡ two_instr (slice_index words.now 0) (slice_index words.now 1) (slice_index words.now 2) }
     ensures size { 2 * result.1 ≡ size_of result.0 }
 {
     let first = words[0];
@@ -149,7 +149,7 @@ fn read_two(words: &[u16; 3]) -> (Instr, u8)
 }
 
 fn read_one(first: u16, extension: u16) -> (Instr, u8)
-    ensures value { result.0 ≡ Instr.One (one_of (first / 128 % 8)) (nat_eq (first / 64 % 2) 1) (src_of (first / 16 % 4) (first % 16) extension) }
+    ensures value { result.0 ≡ one_instr first extension }
     ensures size { 2 * result.1 ≡ size_of result.0 }
 {
     let src = source((first / 16 % 4) as u8, (first % 16) as u8, extension);
@@ -162,7 +162,7 @@ fn read_one(first: u16, extension: u16) -> (Instr, u8)
 }
 
 fn read_jump(first: u16) -> Instr
-    ensures { result ≡ Instr.Jump (cond_of (first / 1024 % 8)) (offset_of (first % 1024)) }
+    ensures { result ≡ jump_instr first }
 {
     Instr::Jump {
         cond: condition(first / 1024 % 8),
@@ -171,7 +171,7 @@ fn read_jump(first: u16) -> Instr
 }
 
 fn is_two(first: u16) -> bool
-    ensures { result ≡ two_listed (first / 4096) (nat_eq (first / 64 % 2) 1) (first / 16 % 4) (first / 256 % 16) (first / 128 % 2) (first % 16) }
+    ensures { result ≡ two_word_listed first }
 {
     has_two(
         (first / 4096) as u8,
@@ -184,7 +184,7 @@ fn is_two(first: u16) -> bool
 }
 
 fn is_one(first: u16) -> bool
-    ensures { result ≡ (nat_eq (first / 1024) 4 && one_listed (first / 128 % 8) (nat_eq (first / 64 % 2) 1) (first / 16 % 4) (first % 16)) }
+    ensures { result ≡ one_word_listed first }
 {
     first / 1024 == 4
         && has_one(
