@@ -266,16 +266,18 @@ fn operands_that_have_no_fields_are_invalid(rt: HostRuntime) {
     }
 }
 
-// 36,588 first words of two operands, 348 of one operand and 8,192 jumps, counted by listing each operator with each of
-// its operands.
+// 36,588 first words of two operands, 348 of one operand and 8,192 jumps, and their sum: from a list, made apart from
+// this program, of each operator with each of its operands.
 #[test]
 fn every_first_word_of_the_table_encodes_back(rt: HostRuntime) {
     let mut count: u32 = 0;
+    let mut sum: u32 = 0;
     for first in 0..=u16::MAX {
         let words = [first, 0x1234, 0x5678];
         if let Some((instr, len)) = decode(&words) {
             let code = encode(&instr);
             count = count.wrapping_add(1);
+            sum = sum.wrapping_add(first as u32);
             assert_eq!(rt; code.len, len);
             assert_eq!(rt; code.words[0], first);
             assert!(rt; len < 2 || code.words[1] == 0x1234);
@@ -283,4 +285,5 @@ fn every_first_word_of_the_table_encodes_back(rt: HostRuntime) {
         }
     }
     assert_eq!(rt; count, 45128);
+    assert_eq!(rt; sum, 1596142036);
 }
