@@ -1,0 +1,71 @@
+-- What the code's types stand for.
+use Rattle.std.specs.Prelude.{◌≡◌, ℕ, ◌%◌, ◌<◌, Bool, true, false}
+use Rattle.isa430.specs.declared.instr.OneOp.{OneOp}
+use Rattle.isa430.specs.declared.instr.OneOp.TheVariants.{Rrc, Swpb, Rra, Sxt, Push, Call}
+use Rattle.isa430.specs.declared.instr.Src.{Src}
+use Rattle.isa430.specs.declared.instr.Src.TheVariants.{Reg, Indexed, Absolute, Indirect, Increment, Immediate, Constant}
+use Rattle.isa430.specs.declared.instr.Dst.{Dst}
+use Rattle.isa430.specs.declared.instr.Dst.TheVariants.{Reg as ToReg, Indexed as ToIndexed, Absolute as ToAbsolute}
+use Rattle.core430.specs.declared.operand.Place.{Place}
+use Rattle.core430.specs.declared.operand.Place.TheVariants.{InRegister, InMemory, Given}
+use Rattle.core430.specs.declared.change.Change.{Change}
+use Rattle.core430.specs.declared.change.Change.TheVariants.{Sets as SetsRegisters, Stores as StoresWord, Faults as FaultsAt}
+use Rattle.core430.specs.declared.machine.Stepped.{Stepped}
+use Rattle.core430.specs.declared.machine.Stepped.TheVariants.{Next as WentOn, Service as Called, Wild as WentWild}
+use Rattle.core430.specs.Instructions.{Effect, Sets, Stores, Faults}
+use Rattle.core430.specs.Step.{Outcome, Next, Service, Wild}
+
+-- a change, with the registers that it leaves
+abbrev pub effect_shown : Change → (ℕ → ℕ) → Effect
+effect_shown SetsRegisters r = Sets r
+effect_shown (StoresWord address word) r = Stores r address word
+effect_shown (FaultsAt address) r = Faults address
+
+-- an answer, with the registers and the memory that it leaves
+abbrev pub outcome_shown : Stepped → (ℕ → ℕ) → (ℕ → ℕ) → Outcome
+outcome_shown WentOn r m = Next (record { regs = r; memory = m })
+outcome_shown (Called number) r m = Service number (record { regs = r; memory = m })
+outcome_shown (WentWild address) r m = Wild address
+
+-- the registers that a source names are there
+abbrev pub HasSource : Src → Type 0
+HasSource (Reg n) = n < 16
+HasSource (Indexed n x) = n < 16
+HasSource (Absolute a) = Unit {0}
+HasSource (Indirect n) = n < 16
+HasSource (Increment n) = n < 16
+HasSource (Immediate v) = Unit {0}
+HasSource (Constant g) = Unit {0}
+
+abbrev pub HasDestination : Dst → Type 0
+HasDestination (ToReg n) = n < 16
+HasDestination (ToIndexed n x) = n < 16
+HasDestination (ToAbsolute a) = Unit {0}
+
+-- only shifts have a byte form
+abbrev pub HasWidth : OneOp → Bool → Type 0
+HasWidth Rrc byte = Unit {0}
+HasWidth Swpb byte = byte ≡ false
+HasWidth Rra byte = Unit {0}
+HasWidth Sxt byte = byte ≡ false
+HasWidth Push byte = byte ≡ false
+HasWidth Call byte = byte ≡ false
+
+-- a register that there is
+abbrev pub IsInside : Place → Type 0
+IsInside (InRegister n) = n < 16
+IsInside (InMemory a) = Unit {0}
+IsInside (Given v) = Unit {0}
+
+-- a place that an access of this width may go to
+abbrev pub IsReachable : Bool → Place → Type 0
+IsReachable true p = Unit {0}
+IsReachable false (InRegister n) = Unit {0}
+IsReachable false (InMemory a) = a % 2 ≡ 0
+IsReachable false (Given v) = Unit {0}
+
+-- what is stored goes to an even address
+abbrev pub IsEvenStore : Change → Type 0
+IsEvenStore SetsRegisters = Unit {0}
+IsEvenStore (StoresWord address word) = address % 2 ≡ 0
+IsEvenStore (FaultsAt address) = Unit {0}
