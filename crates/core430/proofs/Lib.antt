@@ -1,1 +1,3 @@
+pub mod Outcomes
+pub mod Validity
 pub mod Widths

@@ -1,11 +1,14 @@
 -- What the code's types stand for.
-use Rattle.std.specs.Prelude.{◌≡◌, ℕ, ◌%◌, ◌<◌, Bool, true, false}
+use Rattle.std.specs.Prelude.{◌≡◌, ℕ, ◌%◌, ◌<◌, ◌≤ℤ◌, pos, negsuc, Bool, true, false}
+use Rattle.base16.specs.Memory.{put}
 use Rattle.isa430.specs.declared.instr.OneOp.{OneOp}
 use Rattle.isa430.specs.declared.instr.OneOp.TheVariants.{Rrc, Swpb, Rra, Sxt, Push, Call}
 use Rattle.isa430.specs.declared.instr.Src.{Src}
 use Rattle.isa430.specs.declared.instr.Src.TheVariants.{Reg, Indexed, Absolute, Indirect, Increment, Immediate, Constant}
 use Rattle.isa430.specs.declared.instr.Dst.{Dst}
 use Rattle.isa430.specs.declared.instr.Dst.TheVariants.{Reg as ToReg, Indexed as ToIndexed, Absolute as ToAbsolute}
+use Rattle.isa430.specs.declared.instr.Instr.{Instr}
+use Rattle.isa430.specs.declared.instr.Instr.TheVariants.{Two, One, Jump}
 use Rattle.core430.specs.declared.operand.Place.{Place}
 use Rattle.core430.specs.declared.operand.Place.TheVariants.{InRegister, InMemory, Given}
 use Rattle.core430.specs.declared.change.Change.{Change}
@@ -26,6 +29,23 @@ abbrev pub outcome_shown : Stepped → (ℕ → ℕ) → (ℕ → ℕ) → Outco
 outcome_shown WentOn r m = Next (record { regs = r; memory = m })
 outcome_shown (Called number) r m = Service number (record { regs = r; memory = m })
 outcome_shown (WentWild address) r m = Wild address
+
+-- a fact for an access that was refused
+abbrev pub OnWild : Stepped → Type 0 → Type 0
+OnWild WentOn P = Unit {0}
+OnWild (Called number) P = Unit {0}
+OnWild (WentWild address) P = P
+
+-- nothing was refused
+abbrev pub IsTame : Stepped → Type 0
+IsTame WentOn = Unit {0}
+IsTame (Called number) = Unit {0}
+IsTame (WentWild address) = ⊥
+
+-- a memory before and after: the same, or with one word put at an even address that is not denied
+pub data AtMostOnePut (denied : ℕ → Bool) (before after : ℕ → ℕ) : Type 0 where
+  NoPut : after ≡ before → AtMostOnePut denied before after
+  OnePut : (address word : ℕ) → address % 2 ≡ 0 → denied address ≡ false → after ≡ put before address word → AtMostOnePut denied before after
 
 -- the registers that a source names are there
 abbrev pub HasSource : Src → Type 0
@@ -50,6 +70,12 @@ HasWidth Rra byte = Unit {0}
 HasWidth Sxt byte = byte ≡ false
 HasWidth Push byte = byte ≡ false
 HasWidth Call byte = byte ≡ false
+
+-- the operands of an instruction are there
+abbrev pub HasOperands : Instr → Type 0
+HasOperands (Two op byte src dst) = HasSource src × HasDestination dst
+HasOperands (One op byte src) = HasWidth op byte × HasSource src
+HasOperands (Jump cond offset) = (negsuc 511 ≤ℤ offset) × (offset ≤ℤ pos 511)
 
 -- a register that there is
 abbrev pub IsInside : Place → Type 0

@@ -6,15 +6,19 @@ ghost use Rattle.core430.specs.Operands.{raised};
 ghost use Rattle.core430.specs.Instructions.{two_result, two_status, is_kept as is_kept_of, one_result, one_status, deliver as deliver_of, switches_off as switches_off_of, settle as settle_of, lowered, push_effect, call_effect, two_effect, change_effect, one_effect, is_taken as is_taken_of, jump_target, effect_of};
 ghost use Rattle.core430.specs.Shown.{HasWidth, HasSource, HasDestination, IsInside, IsReachable, IsEvenStore, effect_shown};
 
-use base16::Regs;
-use isa430::{Cond, Dst, Instr, OneOp, Src, TwoOp};
-
-use crate::arithmetic::{complement, difference, difference_status, extended, is_negative, logic_status, shift, shift_status, sum, sum_status, swapped};
+use crate::arithmetic::{
+    complement, difference, difference_status, extended, is_negative, logic_status, shift,
+    shift_status, sum, sum_status, swapped,
+};
 use crate::change::Change;
 use crate::memory::Memory;
-use crate::operand::{Place, destination_place, odd_access, raise, source_place, value, with_byte, word_address};
+use crate::operand::{
+    Place, destination_place, odd_access, raise, source_place, value, with_byte, word_address,
+};
 use crate::registers::{flag, set, write};
 use crate::status::{carry, negative, off, overflow, zero};
+use base16::Regs;
+use isa430::{Cond, Dst, Instr, OneOp, Src, TwoOp};
 
 /// A result, and the status that its instruction leaves if the flags change.
 #[derive(Clone, Copy, Debug, PartialEq, Eq)]
@@ -91,7 +95,12 @@ fn two_answer(op: TwoOp, byte: bool, status: u16, d: u16, s: u16) -> Answer
         TwoOp::Bit | TwoOp::And => logic(byte, status, d & s, false),
         TwoOp::Bic => plain(d & complement(byte, s)),
         TwoOp::Bis => plain(d | s),
-        TwoOp::Xor => logic(byte, status, d ^ s, is_negative(byte, d) && is_negative(byte, s)),
+        TwoOp::Xor => logic(
+            byte,
+            status,
+            d ^ s,
+            is_negative(byte, d) && is_negative(byte, s),
+        ),
     }
 }
 
@@ -181,7 +190,14 @@ fn switches_off(place: Place, v: u16) -> bool
 }
 
 /// Sends a result to its place, which may not switch the core off; pc is the address of the instruction.
-fn settle<M: Memory>(regs: &mut Regs, memory: &M, byte: bool, pc: u16, place: Place, v: u16) -> Change
+fn settle<M: Memory>(
+    regs: &mut Regs,
+    memory: &M,
+    byte: bool,
+    pc: u16,
+    place: Place,
+    v: u16,
+) -> Change
     requires inside { IsInside place }
     requires reachable { IsReachable byte place }
     requires small { v < span_of byte }
@@ -260,7 +276,7 @@ fn target(next: u16, offset: i16) -> u16
 }
 
 /// A jump.
-fn jump(cond: Cond, offset: i16, pc: u16, regs: &mut Regs) -> Change
+pub fn jump(cond: Cond, offset: i16, pc: u16, regs: &mut Regs) -> Change
     requires low { negsuc 511 ≤ℤ offset }
     requires high { offset ≤ℤ pos 511 }
     ensures value { (m : ℕ → ℕ) → effect_shown result (view_of regs.new.r) ≡ effect_of pc (Instr.Jump cond offset) (view_of regs.old.r) m }
@@ -274,7 +290,15 @@ fn jump(cond: Cond, offset: i16, pc: u16, regs: &mut Regs) -> Change
 }
 
 /// An instruction of two operands.
-fn two<M: Memory>(op: TwoOp, byte: bool, src: Src, dst: Dst, pc: u16, regs: &mut Regs, memory: &M) -> Change
+pub fn two<M: Memory>(
+    op: TwoOp,
+    byte: bool,
+    src: Src,
+    dst: Dst,
+    pc: u16,
+    regs: &mut Regs,
+    memory: &M,
+) -> Change
     requires source { HasSource src }
     requires destination { HasDestination dst }
     ensures value { effect_shown result (view_of regs.new.r) ≡ effect_of pc (Instr.Two op byte src dst) (view_of regs.old.r) (M.words memory.now) }
@@ -301,7 +325,15 @@ fn two<M: Memory>(op: TwoOp, byte: bool, src: Src, dst: Dst, pc: u16, regs: &mut
 }
 
 /// An operand that is changed in place.
-fn change<M: Memory>(op: OneOp, byte: bool, from: Place, v: u16, status: u16, regs: &mut Regs, memory: &M) -> Change
+fn change<M: Memory>(
+    op: OneOp,
+    byte: bool,
+    from: Place,
+    v: u16,
+    status: u16,
+    regs: &mut Regs,
+    memory: &M,
+) -> Change
     requires width { HasWidth op byte }
     requires inside { IsInside from }
     requires reachable { IsReachable byte from }
@@ -315,7 +347,14 @@ fn change<M: Memory>(op: OneOp, byte: bool, from: Place, v: u16, status: u16, re
 }
 
 /// An instruction of one operand.
-fn one<M: Memory>(op: OneOp, byte: bool, src: Src, pc: u16, regs: &mut Regs, memory: &M) -> Change
+pub fn one<M: Memory>(
+    op: OneOp,
+    byte: bool,
+    src: Src,
+    pc: u16,
+    regs: &mut Regs,
+    memory: &M,
+) -> Change
     requires width { HasWidth op byte }
     requires source { HasSource src }
     ensures value { effect_shown result (view_of regs.new.r) ≡ effect_of pc (Instr.One op byte src) (view_of regs.old.r) (M.words memory.now) }

@@ -5,11 +5,10 @@ ghost use Rattle.core430.specs.Bytes.{word_address as word_address_of, byte_in, 
 ghost use Rattle.core430.specs.Operands.{constant_of, src_place, dst_place, raise_of, raised, value_at, odd_of};
 ghost use Rattle.core430.specs.Shown.{HasSource, HasDestination, IsInside, IsReachable};
 
-use base16::Regs;
-use isa430::{Dst, Gen, Src};
-
 use crate::memory::Memory;
 use crate::registers::{get, set};
+use base16::Regs;
+use isa430::{Dst, Gen, Src};
 
 /// Where an operand is: in a register, in memory at a byte address, or given by the instruction.
 #[derive(Clone, Copy, Debug, PartialEq, Eq)]
@@ -106,7 +105,11 @@ fn byte_of(address: u16, word: u16) -> u16
     ensures value { result ≡ byte_in address word }
     ensures small { result < 256 }
 {
-    if address % 2 == 0 { word % 256 } else { word / 256 }
+    if address % 2 == 0 {
+        word % 256
+    } else {
+        word / 256
+    }
 }
 
 /// The word with the byte at an address replaced.
