@@ -1,3 +1,5 @@
 pub mod Outcomes
+pub mod PlainLemmas
+pub mod StepLemmas
 pub mod Validity
 pub mod Widths

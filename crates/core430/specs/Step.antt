@@ -51,9 +51,13 @@ abbrev pub execute_if : (ℕ → Bool) → Option Instr → State → Outcome
 execute_if denied None s = Wild (s.regs 0)
 execute_if denied (Some i) s = execute denied i s
 
+-- the instruction that stands at an address
+abbrev pub instr_at : (ℕ → ℕ) → ℕ → Option Instr
+instr_at m a = decode_of (m a) (m ((a + 2) % 65536)) (m ((a + 4) % 65536))
+
 -- the instruction at PC
 abbrev pub fetched : State → Option Instr
-fetched s = decode_of (s.memory (s.regs 0)) (s.memory ((s.regs 0 + 2) % 65536)) (s.memory ((s.regs 0 + 4) % 65536))
+fetched s = instr_at s.memory (s.regs 0)
 
 unfoldable pub step : (ℕ → Bool) → State → Outcome
 step denied s = if nat_eq (s.regs 0 % 2) 0 then execute_if denied (fetched s) s else Wild (s.regs 0)

@@ -7,8 +7,10 @@ mod instruction;
 mod machine;
 mod memory;
 mod operand;
+mod plain;
 mod registers;
 mod status;
 
-pub use machine::Stepped;
+pub use machine::{Stepped, step};
 pub use memory::{Denied, Memory};
+pub use plain::PlainMemory;

@@ -1,15 +1,16 @@
-ghost use Rattle.std.specs.Prelude.{◌≡◌, ℕ, ◌%◌, IsTrue};
-ghost use Rattle.isa430.specs.Table.{valid};
+ghost use Rattle.std.specs.Prelude.{◌≡◌, ℕ, ◌*◌, ◌%◌, Some, None, IfSome, MatchOption};
+ghost use Rattle.isa430.specs.Table.{size_of};
 ghost use Rattle.core430.specs.Registers.{view_of};
 ghost use Rattle.core430.specs.Instructions.{effect_of};
-ghost use Rattle.core430.specs.Step.{State, arrive, finish as finish_of, step as step_of};
+ghost use Rattle.core430.specs.Step.{State, arrive, finish as finish_of, instr_at, step as step_of};
 ghost use Rattle.core430.specs.Shown.{HasOperands, IsEvenStore, AtMostOnePut, OnWild, IsTame, effect_shown, outcome_shown};
 
 use crate::change::Change;
 use crate::instruction::{jump, one, two};
 use crate::memory::{Denied, Memory};
+use crate::registers::set;
 use base16::Regs;
-use isa430::Instr;
+use isa430::{Instr, decode};
 
 /// What a step came to.
 #[derive(Clone, Copy, Debug, PartialEq, Eq)]
@@ -73,4 +74,44 @@ fn finish<M: Memory>(change: Change, before: &Regs, regs: &mut Regs, memory: &mu
             Stepped::Wild { address }
         }
     }
+}
+
+/// The instruction that stands at an even address, and the number of its words.
+#[tactic(auto, using(crate::proofs::Validity::operands_there))]
+fn fetch<M: Memory>(address: u16, memory: &M) -> Option<(Instr, u8)>
+    requires { address % 2 ≡ 0 }
+    ensures value { MatchOption result (instr_at (M.words memory.now) address ≡ None) (λ d. instr_at (M.words memory.now) address ≡ Some d.0) }
+    ensures operands { IfSome result (λ d. HasOperands d.0) }
+    ensures size { IfSome result (λ d. 2 * d.1 ≡ size_of d.0) }
+{
+    let words = [
+        memory.get(address),
+        memory.get(address.wrapping_add(2)),
+        memory.get(address.wrapping_add(4)),
+    ];
+    decode(&words)
+}
+
+/// Executes the instruction at PC (MSP430 user's guide, 16-bit CPU, "Instruction Set"). `Wild` comes in this order: PC
+/// is odd, with PC; the first word is outside the table, with PC; a word access goes to an odd address, the source
+/// before the destination, with that address; CPUOFF would be set, with PC; the write is denied, with its even address.
+/// Registers and memory are then as before.
+pub fn step<M: Memory>(regs: &mut Regs, memory: &mut M) -> Stepped
+    ensures is { outcome_shown result (view_of regs.new.r) (M.words memory.new) ≡ step_of (M.denied memory.old) (record { regs = view_of regs.old.r; memory = M.words memory.old }) }
+    ensures wild_registers { OnWild result (regs.new ≡ regs.old) }
+    ensures wild_memory { OnWild result (M.words memory.new ≡ M.words memory.old) }
+    ensures one_put { AtMostOnePut (M.denied memory.old) (M.words memory.old) (M.words memory.new) }
+    ensures kept { M.denied memory.new ≡ M.denied memory.old }
+{
+    let pc = regs.r[0];
+    if pc % 2 != 0 {
+        return Stepped::Wild { address: pc };
+    }
+    let Some((instr, len)) = fetch(pc, memory) else {
+        return Stepped::Wild { address: pc };
+    };
+    let before = *regs;
+    set(regs, 0, pc.wrapping_add(2 * len as u16));
+    let change = perform(instr, pc, regs, memory);
+    finish(change, &before, regs, memory)
 }
