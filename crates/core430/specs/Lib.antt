@@ -6,3 +6,4 @@ pub mod Operands
 pub mod Instructions
 pub mod Step
 pub mod Shown
+pub mod Conditions

@@ -4,7 +4,8 @@ ghost use Rattle.core430.specs.Status.{carry_of};
 ghost use Rattle.core430.specs.Arithmetic.{span_of, sum_of, sum_status as sum_status_of, difference_of, difference_status as difference_status_of, logic_status as logic_status_of, shifted, shift_status as shift_status_of};
 ghost use Rattle.core430.specs.Operands.{raised};
 ghost use Rattle.core430.specs.Instructions.{two_result, two_status, is_kept as is_kept_of, one_result, one_status, deliver as deliver_of, switches_off as switches_off_of, settle as settle_of, lowered, push_effect, call_effect, two_effect, change_effect, one_effect, is_taken as is_taken_of, jump_target, effect_of};
-ghost use Rattle.core430.specs.Shown.{HasWidth, HasSource, HasDestination, IsInside, IsReachable, IsEvenStore, effect_shown};
+ghost use Rattle.core430.specs.Conditions.{HasWidth, HasSource, HasDestination, IsInside, IsReachable, IsEvenStore};
+ghost use Rattle.core430.specs.Shown.{effect_shown};
 
 use crate::arithmetic::{
     complement, difference, difference_status, extended, is_negative, logic_status, shift,

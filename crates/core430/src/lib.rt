@@ -14,3 +14,6 @@ mod status;
 pub use machine::{Stepped, step};
 pub use memory::{Denied, Memory};
 pub use plain::PlainMemory;
+
+#[cfg(test)]
+mod tests;

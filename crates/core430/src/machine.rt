@@ -3,7 +3,8 @@ ghost use Rattle.isa430.specs.Table.{size_of};
 ghost use Rattle.core430.specs.Registers.{view_of};
 ghost use Rattle.core430.specs.Instructions.{effect_of};
 ghost use Rattle.core430.specs.Step.{State, arrive, finish as finish_of, instr_at, step as step_of};
-ghost use Rattle.core430.specs.Shown.{HasOperands, IsEvenStore, AtMostOnePut, OnWild, IsTame, effect_shown, outcome_shown};
+ghost use Rattle.core430.specs.Conditions.{HasOperands, IsEvenStore};
+ghost use Rattle.core430.specs.Shown.{AtMostOnePut, OnWild, IsTame, effect_shown, outcome_shown};
 
 use crate::change::Change;
 use crate::instruction::{jump, one, two};

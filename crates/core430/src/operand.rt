@@ -3,7 +3,7 @@ ghost use Rattle.core430.specs.Registers.{view_of};
 ghost use Rattle.core430.specs.Arithmetic.{span_of};
 ghost use Rattle.core430.specs.Bytes.{word_address as word_address_of, byte_in, with_byte as with_byte_of};
 ghost use Rattle.core430.specs.Operands.{constant_of, src_place, dst_place, raise_of, raised, value_at, odd_of};
-ghost use Rattle.core430.specs.Shown.{HasSource, HasDestination, IsInside, IsReachable};
+ghost use Rattle.core430.specs.Conditions.{HasSource, HasDestination, IsInside, IsReachable};
 
 use crate::memory::Memory;
 use crate::registers::{get, set};
