@@ -1,3 +1,4 @@
+pub mod Flags
 pub mod Outcomes
 pub mod PlainLemmas
 pub mod StepLemmas
