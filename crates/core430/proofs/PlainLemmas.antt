@@ -2,7 +2,7 @@
 use Rattle.std.proofs.Common.{◌≡◌, ◌≢◌, ℕ, ◌/◌, ◌%◌, ◌<◌, List, length, refl, arith, inl, inr, get_or-set_same, get_or-set_other, ◌⊎◌}
 use Rattle.std.proofs.Math.Path.{fun_ext}
 use Rattle.std.proofs.lemmas.Bool.{ne_eqb, eq-eqb, cases_eq}
-use Rattle.std.specs.Prelude.{slice_set, slice_index, if◌then◌else◌, nat_eq}
+use Rattle.std.specs.Prelude.{slice_set, if◌then◌else◌, nat_eq}
 use Rattle.base16.specs.Memory.{words_of, put}
 
 at_each : (ws : List ℕ) (a w b : ℕ) → a % 2 ≡ 0 → a / 2 < length ws → words_of (slice_set ws (a / 2) w) b ≡ (if nat_eq b a then w else words_of ws b)

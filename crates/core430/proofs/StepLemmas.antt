@@ -1,11 +1,11 @@
 -- One step, by how it ends.
-use Rattle.std.proofs.Common.{◌≡◌, ◌≢◌, ℕ, ◌+◌, ◌%◌, ap, Bool, Option, Some, None}
+use Rattle.std.proofs.Common.{◌≡◌, ◌≢◌, ℕ, ◌+◌, ◌%◌, ap, Bool, Some, None}
 use Rattle.std.proofs.lemmas.Bool.{ne_eqb, eq-eqb}
 use Rattle.isa430.specs.declared.instr.Instr.{Instr}
 use Rattle.isa430.specs.Table.{size_of}
 use Rattle.core430.specs.Registers.{set_reg}
 use Rattle.core430.specs.Instructions.{Effect, effect_of}
-use Rattle.core430.specs.Step.{State, Outcome, Wild, instr_at, finish, step}
+use Rattle.core430.specs.Step.{Wild, instr_at, finish, step}
 
 pub odd_step : (D : ℕ → Bool) (r m : ℕ → ℕ) (pc : ℕ) → pc ≡ r 0 → pc % 2 ≢ 0 → Wild pc ≡ step D (record { regs = r; memory = m })
 unfolding step

@@ -10,7 +10,7 @@ use Rattle.isa430.specs.declared.instr.Dst.{Dst}
 use Rattle.isa430.specs.declared.instr.Dst.TheVariants.{Reg as ToReg, Indexed as ToIndexed, Absolute as ToAbsolute}
 use Rattle.isa430.specs.declared.instr.Instr.{Instr}
 use Rattle.isa430.specs.declared.instr.Instr.TheVariants.{Two, One, Jump}
-use Rattle.isa430.specs.Table.{valid, src_formed, dst_formed, offset_formed, one_listed, one_number, src_mode, src_register, source_listed, changed_listed}
+use Rattle.isa430.specs.Table.{valid, src_formed, dst_formed, offset_formed, one_listed, one_number, src_mode, src_register, source_listed}
 use Rattle.core430.specs.Conditions.{HasOperands, HasSource, HasDestination, HasWidth}
 
 first : (a b : Bool) → (a && b) ≡ true → a ≡ true

@@ -1,5 +1,5 @@
 -- What the code's functions ask of operands.
-use Rattle.std.specs.Prelude.{◌≡◌, ℕ, ◌%◌, ◌<◌, ◌≤ℤ◌, pos, negsuc, Bool, true, false}
+use Rattle.std.specs.Prelude.{◌≡◌, ◌%◌, ◌<◌, ◌≤ℤ◌, pos, negsuc, Bool, true, false}
 use Rattle.isa430.specs.declared.instr.OneOp.{OneOp}
 use Rattle.isa430.specs.declared.instr.OneOp.TheVariants.{Rrc, Swpb, Rra, Sxt, Push, Call}
 use Rattle.isa430.specs.declared.instr.Src.{Src}

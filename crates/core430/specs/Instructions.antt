@@ -1,6 +1,6 @@
 -- What each instruction does (MSP430 user's guide, 16-bit CPU, "Instruction Set"). Registers are those that an
 -- instruction finds, with PC past it.
-use Rattle.std.specs.Prelude.{ℕ, ◌+◌, ◌-◌, ◌*◌, ◌%◌, Bool, true, false, not, ◌&&◌, Option, Some, None, if◌then◌else◌, nat_eq, nat_le, ℤ, pos, negsuc, bit_and, bit_or, bit_xor}
+use Rattle.std.specs.Prelude.{ℕ, ◌+◌, ◌-◌, ◌*◌, ◌%◌, Bool, true, false, not, ◌&&◌, Option, Some, None, if◌then◌else◌, nat_eq, ℤ, pos, negsuc, bit_and, bit_or, bit_xor}
 use Rattle.isa430.specs.declared.instr.TwoOp.{TwoOp}
 use Rattle.isa430.specs.declared.instr.TwoOp.TheVariants.{Mov, Add, Addc, Subc, Sub, Cmp, Bit, Bic, Bis, Xor, And}
 use Rattle.isa430.specs.declared.instr.OneOp.{OneOp}

@@ -1,5 +1,5 @@
 -- One step of the core: the instruction at PC, from registers and memory to registers and memory.
-use Rattle.std.specs.Prelude.{ℕ, ◌+◌, ◌-◌, ◌/◌, ◌%◌, Bool, true, false, ◌&&◌, List, [], ◌∷◌, ◌++◌, Option, Some, None, if◌then◌else◌, nat_eq, nat_lt, nat_le}
+use Rattle.std.specs.Prelude.{ℕ, ◌+◌, ◌-◌, ◌/◌, ◌%◌, Bool, true, ◌&&◌, List, [], ◌∷◌, ◌++◌, Option, Some, None, if◌then◌else◌, nat_eq, nat_lt, nat_le}
 use Rattle.base16.specs.Memory.{put}
 use Rattle.isa430.specs.declared.instr.TwoOp.{TwoOp}
 use Rattle.isa430.specs.declared.instr.TwoOp.TheVariants.{Mov}

@@ -1,7 +1,5 @@
-use Rattle.std.proofs.Common.{◌≡◌, ℕ, ◌+◌, ◌*◌, ◌%◌, ◌∙◌, ap, sym, refl, arith, Option, Some, slice_index_or}
-use Rattle.isa430.specs.Table.{size_of}
-use Rattle.core430.specs.Registers.{view_of, set_reg}
-use Rattle.core430.specs.Step.{finish}
+use Rattle.std.proofs.Common.{◌*◌, ◌∙◌, refl, arith, slice_index_or}
+use Rattle.core430.specs.Registers.{view_of}
 use Rattle.core430.proofs.StepLemmas.{odd_step, no_step, some_step}
 use Rattle.core430.proofs.machine.step.Goals as goal
 
