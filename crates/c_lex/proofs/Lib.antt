@@ -1,0 +1,6 @@
+pub mod Fronts
+pub mod LexLaws
+pub mod Measured
+pub mod Shorts
+pub mod Spanned
+pub mod Values
