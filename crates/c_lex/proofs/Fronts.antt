@@ -9,15 +9,15 @@ use Rattle.c_lex.specs.Measures.{span}
 
 -- ---- the end of a comment
 
-close_here : (last b : ℕ) (rest : Text) → last == 42 && b == 47 ≡ true → close last (b ∷ rest) ≡ Some 1
+pub close_here : (last b : ℕ) (rest : Text) → last == 42 && b == 47 ≡ true → close last (b ∷ rest) ≡ Some 1
 unfolding close
 close_here last b rest e = rw e refl
 
-close_later : (last b : ℕ) (rest : Text) → last == 42 && b == 47 ≡ false → close last (b ∷ rest) ≡ option_map suc (close b rest)
+pub close_later : (last b : ℕ) (rest : Text) → last == 42 && b == 47 ≡ false → close last (b ∷ rest) ≡ option_map suc (close b rest)
 unfolding close
 close_later last b rest e = rw e refl
 
-close_nil : (last : ℕ) → close last [] ≡ None
+pub close_nil : (last : ℕ) → close last [] ≡ None
 unfolding close
 close_nil last = refl
 
@@ -54,11 +54,11 @@ closes last (b ∷ rest) m is = closes_at last b rest m (last == 42 && b == 47) 
 
 -- ---- the digit of a line marker
 
-follows-cons : (b : ℕ) (rest : Text) → digit_follows (b ∷ rest) ≡ (is_digit b || (is_line_blank b && digit_follows rest))
+pub follows-cons : (b : ℕ) (rest : Text) → digit_follows (b ∷ rest) ≡ (is_digit b || (is_line_blank b && digit_follows rest))
 unfolding digit_follows
 follows-cons b rest = refl
 
-follows_nil : digit_follows [] ≡ false
+pub follows_nil : digit_follows [] ≡ false
 unfolding digit_follows
 follows_nil = refl
 

@@ -1,3 +1,4 @@
+pub mod Closing
 pub mod Fronts
 pub mod LexLaws
 pub mod Measured

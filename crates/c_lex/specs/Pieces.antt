@@ -108,10 +108,14 @@ short (a ∷ more) =
 
 -- ---- comments (C99 6.4.9)
 
+-- whether this byte and the one behind it are `*/`
+abbrev pub ends_here : ℕ → ℕ → Bool
+ends_here last b = last == 42 && b == 47
+
 -- how many bytes there are up to the end of the first `*/`, where this byte stands before the text; nothing without one
 unfoldable pub close : ℕ → Text → Option ℕ
 close last [] = None
-close last (b ∷ rest) = if last == 42 && b == 47 then Some 1 else option_map suc (close b rest)
+close last (b ∷ rest) = if ends_here last b then Some 1 else option_map suc (close b rest)
 
 -- `/*` and so many bytes: a comment has its first `*/` at its end, and one without any is open
 abbrev pub comment : Option ℕ → ℕ → Option Item

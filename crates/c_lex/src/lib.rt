@@ -4,6 +4,7 @@
 mod bytes;
 mod item;
 mod numbers;
+mod pieces;
 mod spelling;
 mod token;
 
