@@ -15,7 +15,7 @@ use Rattle.c_lex.proofs.Measured.{Measured, nowhere, measured, is_measured, nil_
 
 -- ---- the longest piece is one
 
-positive : {fresh : Bool} {text : Text} {n : ℕ} {item : Item} → Longest fresh text n item → 0 < n
+pub positive : {fresh : Bool} {text : Text} {n : ℕ} {item : Item} → Longest fresh text n item → 0 < n
 positive {fresh} {n = zero} m = let e = nil_piece fresh in let f = m.is in absurd (cc)
 positive {n = suc n} m = omega arith
 

@@ -77,3 +77,8 @@ IsWritten (Char v) text = Unit {0}
 abbrev pub AreSlices : Text → List AToken → Type 0
 AreSlices source [] = Unit {0}
 AreSlices source (t ∷ ts) = IsWritten t.kind (slice_range source t.start t.end) × AreSlices source ts
+
+-- the line of each token is that of its first byte
+abbrev pub AreCounted : Text → List AToken → Type 0
+AreCounted source [] = Unit {0}
+AreCounted source (t ∷ ts) = (t.line ≡ line_at source t.start) × AreCounted source ts

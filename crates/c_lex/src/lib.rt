@@ -3,10 +3,12 @@
 
 mod bytes;
 mod item;
+mod lexer;
 mod numbers;
 mod pieces;
 mod spelling;
 mod token;
 
 pub use item::LexErr;
+pub use lexer::{each_source_is_read_in_one_way, lex};
 pub use token::{Keyword, Mark, Note, Token, TokenKind};
