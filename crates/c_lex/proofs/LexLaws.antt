@@ -1,11 +1,9 @@
 -- A source is one list of tokens or has one refusal, and what the lexer has reached leads to it.
-use Rattle.std.proofs.Common.{◌≡◌, ℕ, zero, suc, ◌+◌, ◌<◌, ◌≤◌, ◌⊎◌, inl, inr, Bool, List, [], ◌∷◌, ◌++◌, length, take, drop, Option, Some, None, Result, Ok, Err, refl, ap, sym, ◌∙◌, subst, arith, append_assoc, length-drop}
+use Rattle.std.proofs.Common.{◌≡◌, ℕ, zero, suc, ◌+◌, ◌<◌, ◌≤◌, inl, inr, Bool, List, [], ◌∷◌, ◌++◌, length, take, drop, Some, Result, Ok, Err, refl, ap, sym, subst, arith, append_assoc, length-drop}
 use Rattle.std.proofs.lemmas.Bool.{cases_order, cases_lt}
 use Rattle.c_lex.specs.declared.token.Token.{Token as AToken}
-use Rattle.c_lex.specs.declared.token.TokenKind.{TokenKind}
 use Rattle.c_lex.specs.declared.item.Item.{Item}
 use Rattle.c_lex.specs.declared.item.Item.TheVariants.{Skip, Token, Bad}
-use Rattle.c_lex.specs.declared.item.Fault.{Fault}
 use Rattle.c_lex.specs.declared.item.LexErr.{LexErr}
 use Rattle.c_lex.specs.Spelling.{Text}
 use Rattle.c_lex.specs.Pieces.{piece, Longest, Stuck}
@@ -150,9 +148,9 @@ decides_at source at n (measured {item} p m) some next = decides_by source at n 
 decides_from : (turns : ℕ) (source : Text) (at : ℕ) → length source ≤ at + turns → IsDecided source at
 decides_from zero source at h = inl ([], done (omega arith))
 decides_from (suc turns) source at h = elim (cases_lt at (length source)) [
-    inl some ↦ decides_at source at _ (is_measured (fresh_at source at) (drop at source)) some (λ p. decides_from turns source (at + piece_len (fresh_at source at) (drop at source)) (omega arith))
+  | inl some ↦ decides_at source at _ (is_measured (fresh_at source at) (drop at source)) some (λ p. decides_from turns source (at + piece_len (fresh_at source at) (drop at source)) (omega arith))
   | inr past ↦ inl ([], done past)
-  ]
+]
 
 pub decides : (source : Text) → IsDecided source 0
 decides source = decides_from (length source) source 0 (omega arith)

@@ -1,5 +1,5 @@
 -- `piece_len` is the length of the longest piece.
-use Rattle.std.proofs.Common.{◌≡◌, ℕ, zero, suc, ◌+◌, ◌-◌, ◌<◌, ◌≤◌, Bool, true, false, ◌&&◌, ◌||◌, ◌⊎◌, inl, inr, cond, ◌==◌, List, [], ◌∷◌, length, take, min, Option, Some, None, is_some, refl, ap, sym, ◌∙◌, arith, rules, length-take-le, take_all}
+use Rattle.std.proofs.Common.{◌≡◌, ℕ, zero, suc, ◌+◌, ◌<◌, ◌≤◌, Bool, true, false, ◌&&◌, ◌||◌, ◌⊎◌, inl, inr, cond, ◌==◌, [], ◌∷◌, length, take, min, Option, Some, None, is_some, refl, ◌∙◌, arith, rules, length-take-le, take_all}
 use Rattle.std.specs.Prelude.{unwrap_or}
 use Rattle.std.specs.List.{list_all}
 use Rattle.std.proofs.lemmas.Bool.{eq-eqb, ne_eqb}
@@ -9,7 +9,7 @@ use Rattle.c_lex.specs.declared.item.Fault.TheVariants as fault
 use Rattle.c_lex.specs.Spelling.{Text}
 use Rattle.c_lex.specs.Bytes.{is_letter, is_digit, is_blank, continues, in_line}
 use Rattle.c_lex.specs.Pieces.{piece, run, word, number, marker, slash, short, comment, close, digit_follows, Longest, Stuck}
-use Rattle.c_lex.specs.Measures.{span, greatest, is_short, most, short_len, slash_len, piece_len}
+use Rattle.c_lex.specs.Measures.{span, is_short, most, short_len, slash_len, piece_len}
 use Rattle.c_lex.proofs.Spanned.{span_passes, span_within, span_longest}
 use Rattle.c_lex.proofs.Shorts.{Greatest, greatest_is, long_short}
 use Rattle.c_lex.proofs.Fronts.{Closes, closes, follows_none, follows_in_line}
@@ -77,10 +77,10 @@ marker_longest : (a : ℕ) (more : Text) → Markers true a → (k : ℕ) → 1 
 marker_longest a more c zero h w = absurd (omega arith)
 marker_longest a more c (suc k) h w = c.is (take k more) ∙ passed (digit_follows (take k more)) (list_all in_line (take k more)) (span_longest in_line more k (omega arith) (omega arith))
   where
-  passed : (d r : Bool) → r ≡ false → cond d (cond r (Some Skip) None) None ≡ None
-  passed true true e = cc
-  passed true false e = refl
-  passed false r e = refl
+    passed : (d r : Bool) → r ≡ false → cond d (cond r (Some Skip) None) None ≡ None
+    passed true true e = cc
+    passed true false e = refl
+    passed false r e = refl
 
 marker_is : (a : ℕ) (more : Text) → Markers true a → digit_follows more ≡ true → piece true (take (1 + span in_line more) (a ∷ more)) ≡ Some Skip
 marker_is a more c h =
@@ -108,9 +108,9 @@ record Short (fresh : Bool) (text : Text) (a : ℕ) (more : Text) : Type 0 where
 none_of : (t : Text) → is_short t ≡ false → short t ≡ None
 none_of t h = by (short t) h
   where
-  by : (o : Option Item) → is_some o ≡ false → o ≡ None
-  by None h = refl
-  by (Some x) h = cc
+    by : (o : Option Item) → is_some o ≡ false → o ≡ None
+    by None h = refl
+    by (Some x) h = cc
 
 within_or_past : (k n : ℕ) → (k ≤ n) ⊎ (n < k)
 within_or_past k n = search rules
@@ -156,9 +156,9 @@ other_short : (fresh : Bool) (a : ℕ) (more : Text) → is_letter a ≡ false �
 unfolding piece
 other_short fresh a more l d b h s = record { same_length = refl; is = front }
   where
-  front : (k : ℕ) → 0 < k → piece fresh (take k (a ∷ more)) ≡ short (take k (a ∷ more))
-  front zero w = absurd (omega arith)
-  front (suc k) w = rw (l, d, b, h, s) refl
+    front : (k : ℕ) → 0 < k → piece fresh (take k (a ∷ more)) ≡ short (take k (a ∷ more))
+    front zero w = absurd (omega arith)
+    front (suc k) w = rw (l, d, b, h, s) refl
 
 -- ---- what begins with `/`
 
@@ -172,18 +172,18 @@ slash_slashes fresh a l d b h s = record { is = λ more. rw (l, d, b, h, s) refl
 slash_alone : (fresh : Bool) (a : ℕ) → Slashes fresh a → Short fresh (a ∷ []) 47 []
 slash_alone fresh a c = record { same_length = refl; is = front }
   where
-  front : (k : ℕ) → 0 < k → piece fresh (take k (a ∷ [])) ≡ short (take k (47 ∷ []))
-  front zero w = absurd (omega arith)
-  front (suc zero) w = c.is []
-  front (suc (suc k)) w = c.is []
+    front : (k : ℕ) → 0 < k → piece fresh (take k (a ∷ [])) ≡ short (take k (47 ∷ []))
+    front zero w = absurd (omega arith)
+    front (suc zero) w = c.is []
+    front (suc (suc k)) w = c.is []
 
 slash_short : (fresh : Bool) (a b : ℕ) (more : Text) → Slashes fresh a → (b == 42) ≡ false → (b == 47) ≡ false → Short fresh (a ∷ b ∷ more) 47 (b ∷ more)
 slash_short fresh a b more c s l = record { same_length = refl; is = front }
   where
-  front : (k : ℕ) → 0 < k → piece fresh (take k (a ∷ b ∷ more)) ≡ short (take k (47 ∷ b ∷ more))
-  front zero w = absurd (omega arith)
-  front (suc zero) w = c.is []
-  front (suc (suc k)) w = c.is (b ∷ take k more) ∙ (rw (s, l) refl)
+    front : (k : ℕ) → 0 < k → piece fresh (take k (a ∷ b ∷ more)) ≡ short (take k (47 ∷ b ∷ more))
+    front zero w = absurd (omega arith)
+    front (suc zero) w = c.is []
+    front (suc (suc k)) w = c.is (b ∷ take k more) ∙ (rw (s, l) refl)
 
 two_more : (n : ℕ) → 2 + n ≡ suc (suc n)
 two_more n = omega arith
@@ -258,7 +258,7 @@ slash_measured fresh a (b ∷ more) c = behind_slash fresh a b more (b == 42) (b
 
 by_class : (fresh : Bool) (a : ℕ) (more : Text) (l d b h s : Bool) → is_letter a ≡ l → is_digit a ≡ d → is_blank a ≡ b → (a == 35) ≡ h → (a == 47) ≡ s
     → Measured fresh (a ∷ more) (cond (l || d) (1 + span continues more) (cond b (1 + span is_blank more)
-        (cond h (cond (fresh && digit_follows more) (1 + span in_line more) 0) (cond s (slash_len more) (short_len (a ∷ more))))))
+    (cond h (cond (fresh && digit_follows more) (1 + span in_line more) 0) (cond s (slash_len more) (short_len (a ∷ more))))))
 by_class fresh a more true d b h s hl hd hb hh hs = run_measured fresh a more continues _ (letter_runs fresh a hl)
 by_class fresh a more false true b h s hl hd hb hh hs = run_measured fresh a more continues _ (digit_runs fresh a hl hd)
 by_class fresh a more false false true h s hl hd hb hh hs = run_measured fresh a more is_blank _ (blank_runs fresh a hl hd hb)

@@ -1,5 +1,5 @@
 -- The clauses of the lexer, from what it read.
-use Rattle.std.proofs.Common.{◌≡◌, ◌≢◌, ℕ, List, [], Result, Ok, Err, IfOk, IfErr, MatchResult, Vec, refl, sym}
+use Rattle.std.proofs.Common.{◌≡◌, ◌≢◌, List, Result, Ok, Err, IfOk, IfErr, MatchResult, Vec, refl}
 use Rattle.std.specs.declared.alloc.Global.{Global}
 use Rattle.c_lex.specs.declared.token.Token.{Token as AToken}
 use Rattle.c_lex.specs.declared.item.LexErr.{LexErr}

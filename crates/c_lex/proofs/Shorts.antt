@@ -1,17 +1,16 @@
 -- Short pieces: how long they are at most, and the greatest front that is one.
-use Rattle.std.proofs.Common.{◌≡◌, ℕ, zero, suc, ◌-◌, ◌<◌, ◌≤◌, Bool, true, false, ◌&&◌, ◌⊎◌, inl, inr, cond, ◌==◌, List, [], ◌∷◌, length, take, Option, Some, None, refl, ap, sym, ◌∙◌, arith, length-take-le}
-use Rattle.std.specs.Prelude.{find, nat_le, not, slice_index}
+use Rattle.std.proofs.Common.{◌≡◌, ℕ, zero, suc, ◌-◌, ◌<◌, ◌≤◌, Bool, true, false, ◌&&◌, ◌⊎◌, inl, inr, cond, ◌==◌, List, [], ◌∷◌, length, take, Option, Some, None, refl, ap, arith, length-take-le}
+use Rattle.std.specs.Prelude.{find, nat_le, slice_index}
 use Rattle.std.specs.List.{list_all}
 use Rattle.std.specs.Str.{bytes_eq}
 use Rattle.std.proofs.lemmas.Slice.Eq.{bytes_eq-Decides}
 use Rattle.std.proofs.lemmas.Bool.{eqb-true, lt-leb, leb-true}
-use Rattle.c_lex.specs.declared.item.Item.{Item}
 use Rattle.c_lex.specs.declared.item.Item.TheVariants.{Bad}
 use Rattle.c_lex.specs.declared.item.Fault.TheVariants as fault
 use Rattle.c_lex.specs.declared.spelling.TheConstants.{NOTES, MARKS}
 use Rattle.c_lex.specs.Spelling.{Text, note_text, mark_text, note_of, mark_of}
-use Rattle.c_lex.specs.Bytes.{is_digit_of, value}
-use Rattle.c_lex.specs.Pieces.{short, quoted, character, character_item, escaped, simple_escape, code, note_item, mark_item}
+use Rattle.c_lex.specs.Bytes.{value}
+use Rattle.c_lex.specs.Pieces.{short, quoted, character, character_item, escaped, code, note_item, mark_item}
 use Rattle.c_lex.specs.Measures.{greatest, most}
 
 -- ---- the greatest front
@@ -101,27 +100,27 @@ long_escape (e ∷ f ∷ more) h =
     let octal = long_code 8 3 (e ∷ f ∷ more) (omega arith) in
     either_none (e == 120) _ _ hexadecimal octal
   where
-  either_none : (b : Bool) (x y : Option ℕ) → x ≡ None → y ≡ None → cond b x y ≡ None
-  either_none true x y h g = h
-  either_none false x y h g = g
+    either_none : (b : Bool) (x y : Option ℕ) → x ≡ None → y ≡ None → cond b x y ≡ None
+    either_none true x y h g = h
+    either_none false x y h g = g
 
 long_character : (t : Text) → 5 ≤ length t → character t ≡ None
 long_character [] h = refl
 long_character (c ∷ []) h = absurd (omega arith)
 long_character (c ∷ d ∷ more) h = behind (c == 92) (long_escape (d ∷ more) (omega arith))
   where
-  behind : (b : Bool) → escaped (d ∷ more) ≡ None → cond b (escaped (d ∷ more)) None ≡ None
-  behind true e = e
-  behind false e = refl
+    behind : (b : Bool) → escaped (d ∷ more) ≡ None → cond b (escaped (d ∷ more)) None ≡ None
+    behind true e = e
+    behind false e = refl
 
 long_quoted : (t : Text) → 6 ≤ length t → quoted t ≡ None
 long_quoted t h = at (length t == 0) (slice_index t (length t - 1) == 39) refl (long_character (take (length t - 1) t) (omega (arith, length-take-le (length t - 1) t)))
   where
-  at : (a b : Bool) → (length t == 0) ≡ a → character (take (length t - 1) t) ≡ None
-      → cond a (Some (Bad fault.BadChar)) (cond b (character_item (character (take (length t - 1) t))) None) ≡ None
-  at true b e none = let z = eqb-true (length t) 0 e in absurd (omega arith)
-  at false true e none = rw none refl
-  at false false e none = refl
+    at : (a b : Bool) → (length t == 0) ≡ a → character (take (length t - 1) t) ≡ None
+        → cond a (Some (Bad fault.BadChar)) (cond b (character_item (character (take (length t - 1) t))) None) ≡ None
+    at true b e none = let z = eqb-true (length t) 0 e in absurd (omega arith)
+    at false true e none = rw none refl
+    at false false e none = refl
 
 -- ---- all short pieces
 
@@ -136,7 +135,7 @@ pub long_short : (a : ℕ) (more : Text) → most a < length (a ∷ more) → sh
 unfolding short
 long_short a more h = by (a == 39) (a == 64) h
   where
-  by : (q n : Bool) → cond q 6 (cond n 14 3) < length (a ∷ more) → cond q (quoted more) (cond n (note_item (note_of (a ∷ more))) (mark_item (mark_of (a ∷ more)))) ≡ None
-  by true n h = long_quoted more (omega arith)
-  by false true h = note_none (a ∷ more) (long_note (a ∷ more) h)
-  by false false h = mark_none (a ∷ more) (long_mark (a ∷ more) h)
+    by : (q n : Bool) → cond q 6 (cond n 14 3) < length (a ∷ more) → cond q (quoted more) (cond n (note_item (note_of (a ∷ more))) (mark_item (mark_of (a ∷ more)))) ≡ None
+    by true n h = long_quoted more (omega arith)
+    by false true h = note_none (a ∷ more) (long_note (a ∷ more) h)
+    by false false h = mark_none (a ∷ more) (long_mark (a ∷ more) h)

@@ -1,5 +1,5 @@
 -- The spans, texts and lines of the tokens that a source is.
-use Rattle.std.proofs.Common.{◌≡◌, ℕ, suc, ◌+◌, ◌-◌, ◌<◌, ◌≤◌, Bool, true, false, cond, ◌==◌, List, [], ◌∷◌, length, take, drop, Option, Some, None, refl, ap, sym, ◌∙◌, subst, arith, length-drop}
+use Rattle.std.proofs.Common.{◌≡◌, ℕ, ◌+◌, ◌-◌, ◌<◌, ◌≤◌, Bool, true, false, cond, ◌==◌, List, [], ◌∷◌, length, take, drop, Option, Some, None, refl, ap, sym, subst, arith, length-drop}
 use Rattle.std.specs.Prelude.{find, slice_range}
 use Rattle.std.specs.List.{list_all}
 use Rattle.std.specs.Str.{bytes_eq}
@@ -7,7 +7,7 @@ use Rattle.std.proofs.lemmas.Slice.Eq.{bytes_eq-Decides}
 use Rattle.std.proofs.lemmas.Bool.{eqb-true}
 use Rattle.c_lex.specs.declared.token.Token.{Token as AToken}
 use Rattle.c_lex.specs.declared.token.TokenKind.{TokenKind}
-use Rattle.c_lex.specs.declared.token.TokenKind.TheVariants.{Number, Char}
+use Rattle.c_lex.specs.declared.token.TokenKind.TheVariants.{Number}
 use Rattle.c_lex.specs.declared.token.Keyword.{Keyword as AKeyword}
 use Rattle.c_lex.specs.declared.token.Note.{Note as ANote}
 use Rattle.c_lex.specs.declared.token.Mark.{Mark as AMark}
@@ -16,9 +16,9 @@ use Rattle.c_lex.specs.declared.item.Item.TheVariants.{Skip, Token, Bad}
 use Rattle.c_lex.specs.declared.item.Fault.TheVariants as fault
 use Rattle.c_lex.specs.declared.spelling.TheConstants.{KEYWORDS, NOTES, MARKS}
 use Rattle.c_lex.specs.Spelling.{Text, keyword_text, note_text, mark_text, keyword_of, note_of, mark_of}
-use Rattle.c_lex.specs.Bytes.{is_letter, is_digit, is_blank, continues, in_line, is_digit_of, value}
-use Rattle.c_lex.specs.Pieces.{piece, run, word_kind, word, numeral, constant, number, quoted, character, character_item, note_item, mark_item, short, comment, close, slash, digit_follows, marker, Longest}
-use Rattle.c_lex.specs.Tokens.{token_at, line_at, fresh_at, Lexes, done, skip, one, InOrder, IsWritten, AreSlices, AreCounted}
+use Rattle.c_lex.specs.Bytes.{is_letter, is_digit, is_blank, continues, in_line, value}
+use Rattle.c_lex.specs.Pieces.{piece, word_kind, word, numeral, constant, number, quoted, character, character_item, note_item, mark_item, short, comment, close, slash, marker}
+use Rattle.c_lex.specs.Tokens.{Lexes, done, skip, one, InOrder, IsWritten, AreSlices, AreCounted}
 use Rattle.c_lex.proofs.LexLaws.{positive}
 
 -- ---- what is looked up in a table is written so
@@ -112,7 +112,7 @@ unfolding short
 short_written [] = tt
 short_written (a ∷ more) =
     either (a ∷ more) (a == 39) _ _ (quoted_written (a ∷ more) more)
-        (either (a ∷ more) (a == 64) _ _ (note_by (a ∷ more) (note_of (a ∷ more)) refl) (mark_by (a ∷ more) (mark_of (a ∷ more)) refl))
+    (either (a ∷ more) (a == 64) _ _ (note_by (a ∷ more) (note_of (a ∷ more)) refl) (mark_by (a ∷ more) (mark_of (a ∷ more)) refl))
 
 comment_by : (t : Text) (o : Option ℕ) (n : ℕ) → Written t (comment o n)
 comment_by t None n = tt
@@ -122,7 +122,7 @@ slash_written : (more : Text) → Written (47 ∷ more) (slash more)
 slash_written [] = short_written (47 ∷ [])
 slash_written (b ∷ more) =
     either (47 ∷ b ∷ more) (b == 42) _ _ (comment_by (47 ∷ b ∷ more) (close 0 more) (length more))
-        (either (47 ∷ b ∷ more) (b == 47) _ _ (skip_if (47 ∷ b ∷ more) (list_all in_line more)) (short_written (47 ∷ b ∷ more)))
+    (either (47 ∷ b ∷ more) (b == 47) _ _ (skip_if (47 ∷ b ∷ more) (list_all in_line more)) (short_written (47 ∷ b ∷ more)))
 
 slash_by : (a : ℕ) (more : Text) (b : Bool) → (a == 47) ≡ b → Written (a ∷ more) (cond b (slash more) (short (a ∷ more)))
 slash_by a more true e = subst (λ x. Written (x ∷ more) (slash more)) (sym (eqb-true a 47 e)) (slash_written more)
@@ -137,9 +137,9 @@ piece_written fresh [] = tt
 piece_written fresh (a ∷ more) =
     let t = a ∷ more in
     either t (is_letter a) _ _ (word_if t (list_all continues more))
-        (either t (is_digit a) _ _ (number_if t t (list_all continues more))
-        (either t (is_blank a) _ _ (skip_if t (list_all is_blank more))
-        (either t (a == 35) _ _ (marker_written t more fresh) (slash_by a more (a == 47) refl))))
+    (either t (is_digit a) _ _ (number_if t t (list_all continues more))
+    (either t (is_blank a) _ _ (skip_if t (list_all is_blank more))
+    (either t (a == 35) _ _ (marker_written t more fresh) (slash_by a more (a == 47) refl))))
 
 token_written : (fresh : Bool) (t : Text) (kind : TokenKind) → piece fresh t ≡ Some (Token kind) → IsWritten kind t
 token_written fresh t kind e = subst (Written t) e (piece_written fresh t)

@@ -1,5 +1,5 @@
 -- A turn of the lexer's loop over its variables.
-use Rattle.std.proofs.Common.{◌≡◌, ℕ, ◌+◌, ◌-◌, ◌<◌, ◌≤◌, Bool, List, [], ◌++◌, length, take, drop, Option, Ok, Err, ◌==◌, refl, ap, sym, ◌∙◌, subst, arith, append-nil, length-take, length-drop}
+use Rattle.std.proofs.Common.{◌≡◌, ℕ, ◌+◌, ◌-◌, ◌<◌, ◌≤◌, Bool, List, [], ◌++◌, length, take, drop, Option, Ok, Err, ◌==◌, refl, sym, subst, arith, append-nil, length-take, length-drop}
 use Rattle.std.specs.Prelude.{count_by, if◌then◌else◌, true}
 use Rattle.std.proofs.Math.Seq.{take-add}
 use Rattle.std.proofs.lemmas.List.{take_rest}

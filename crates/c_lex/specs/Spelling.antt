@@ -1,5 +1,5 @@
 -- How each keyword, annotation and mark is written, and which one a text is.
-use Rattle.std.specs.Prelude.{ℕ, Bool, List, Option, find, codes}
+use Rattle.std.specs.Prelude.{ℕ, List, Option, find, codes}
 use Rattle.std.specs.Str.{bytes_eq}
 use Rattle.c_lex.specs.declared.token.Keyword.{Keyword}
 use Rattle.c_lex.specs.declared.token.Keyword.TheVariants as w

@@ -59,13 +59,24 @@ fn blank_after(before: bool, text: &[u8]) -> bool
 }
 
 /// Keeps a token; a piece that is none is answered.
-fn keep(found: &mut Vec<Token>, item: Option<Item>, start: u32, end: u32, line: u32) -> Result<(), LexErr>
+fn keep(
+    found: &mut Vec<Token>,
+    item: Option<Item>,
+    start: u32,
+    end: u32,
+    line: u32,
+) -> Result<(), LexErr>
     ensures kept { MatchResult result (λ _. measure.kept item start end line found.old.items ≡ Ok found.new.items) (λ fault. fault ≢ err.NoMemory → measure.kept item start end line found.old.items ≡ Err fault) }
 {
     match item {
         Some(Item::Skip) => Ok(()),
         Some(Item::Token(kind)) => {
-            found.push(Token { kind, start, end, line })?;
+            found.push(Token {
+                kind,
+                start,
+                end,
+                line,
+            })?;
             Ok(())
         }
         Some(Item::Bad(fault)) => Err(refusal(fault, start)),
@@ -87,7 +98,13 @@ fn read(alloc: Global, source: &[u8]) -> Result<Vec<Token>, LexErr>
         let n = piece_len(fresh, text);
         let front = &text[..n];
         let item = piece(alloc, fresh, front)?;
-        keep(&mut found, item, at as u32, (at + n) as u32, (lines + 1) as u32)?;
+        keep(
+            &mut found,
+            item,
+            at as u32,
+            (at + n) as u32,
+            (lines + 1) as u32,
+        )?;
         lines += line_feeds(front);
         fresh = blank_after(fresh, front);
         at += n;
@@ -123,5 +140,4 @@ pub fn each_source_is_read_in_one_way()
     ensures one_refusal { (source : List ℕ) (e f : ALexErr) → spec.Refuses source 0 e → spec.Refuses source 0 f → e ≡ f }
     ensures not_both { (source : List ℕ) (ts : List AToken) (e : ALexErr) → spec.Lexes source 0 ts → spec.Refuses source 0 e → ⊥ }
     ensures decided { (source : List ℕ) → spec.IsDecided source 0 }
-{
-}
+{}

@@ -12,3 +12,6 @@ mod token;
 pub use item::LexErr;
 pub use lexer::{each_source_is_read_in_one_way, lex};
 pub use token::{Keyword, Mark, Note, Token, TokenKind};
+
+#[cfg(test)]
+mod tests;

@@ -6,7 +6,9 @@ ghost use Rattle.c_lex.specs.Pieces as spec;
 ghost use Rattle.c_lex.specs.Measures as measure;
 ghost use Rattle.c_lex.specs.Spelling.{note_of, mark_of};
 
-use crate::bytes::{blank_len, continues, in_line, is_blank, is_digit, is_letter, is_line_blank, line_len, word_len};
+use crate::bytes::{
+    blank_len, continues, in_line, is_blank, is_digit, is_letter, is_line_blank, line_len, word_len,
+};
 use crate::item::{Fault, Item};
 use crate::numbers::{number, quoted};
 use crate::spelling::{keyword_of, mark_of, note_of};

@@ -1,4 +1,4 @@
-use Rattle.std.proofs.Common.{◌≡◌, ◌-◌, ◌+◌, ◌≤◌, length, take}
+use Rattle.std.proofs.Common.{◌≡◌, ◌-◌, ◌≤◌, length, take}
 use Rattle.c_lex.specs.Tokens.{line_feeds, fresh_at}
 use Rattle.c_lex.proofs.LexLaws.{Reached}
 use Rattle.c_lex.proofs.lexer.read.Given as goal
