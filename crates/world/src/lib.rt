@@ -1,6 +1,8 @@
-//! What outlives the program: the history of a run.
+//! What outlives the program: power, a clock and sensors, the files that stand for them, and the history of a run.
 #![tactic(auto)]
 
 mod history;
+mod outside;
 
 pub use history::{History, Record, Shown};
+pub use outside::{Off, World};
