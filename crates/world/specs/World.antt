@@ -2,9 +2,12 @@
 use Rattle.std.specs.Prelude.{◌≡◌, ℕ, ◌+◌, ◌^◌, ◌<◌, ◌≤◌, List, [], ◌∷◌, ◌++◌, length}
 use Rattle.std.proofs.Common.{arith}
 use Rattle.base16.specs.declared.reading.Reading.{Reading}
+use Rattle.world.specs.Plan.{Plan}
 
 -- All that the outside is at one moment.
 pub record WorldState : Type 0 where
+  -- what the outside was made from, which nothing changes
+  pub plan : Plan
   -- ticks spent in all
   pub spent : ℕ
   -- ticks left in this power cycle
@@ -36,6 +39,7 @@ pub record Spends (n : ℕ) (old new : WorldState) : Type 0 where
   pub left : old.left ≡ new.left + n
   pub later : old.clock ≤ new.clock
   pub still : n ≡ 0 → new.clock ≡ old.clock
+  pub plan : new.plan ≡ old.plan
   pub period : new.period ≡ old.period
   pub cycles : new.cycles ≡ old.cycles
   pub readings : new.readings ≡ old.readings
@@ -49,6 +53,7 @@ pub record Gives (reading : Reading) (old new : WorldState) : Type 0 where
   pub spent : new.spent ≡ old.spent
   pub left : new.left ≡ old.left
   pub clock : new.clock ≡ old.clock
+  pub plan : new.plan ≡ old.plan
   pub period : new.period ≡ old.period
   pub cycles : new.cycles ≡ old.cycles
   pub spans : new.spans ≡ old.spans
@@ -60,6 +65,7 @@ pub record Wakes (old new : WorldState) : Type 0 where
   pub spans : new.spans ≡ old.spans ++ new.left ∷ []
   pub later : old.clock ≤ new.clock
   pub spent : new.spent ≡ old.spent
+  pub plan : new.plan ≡ old.plan
   pub period : new.period ≡ old.period
   pub readings : new.readings ≡ old.readings
   pub times : new.times ≡ old.times

@@ -1,8 +1,10 @@
 //! What outlives the program: power, a clock and sensors, the files that stand for them, and the history of a run.
 #![tactic(auto)]
 
+mod cycle;
 mod history;
 mod outside;
 
+pub use cycle::PowerCycle;
 pub use history::{History, Record, Shown};
 pub use outside::{Off, World};
