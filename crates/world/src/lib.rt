@@ -4,6 +4,7 @@
 mod cycle;
 mod history;
 mod outside;
+mod text;
 
 pub use cycle::PowerCycle;
 pub use history::{History, Record, Shown};
