@@ -1,3 +1,4 @@
 pub mod Plan
 pub mod Text
+pub mod TraceFile
 pub mod World

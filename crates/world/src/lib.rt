@@ -2,6 +2,7 @@
 #![tactic(auto)]
 
 mod cycle;
+mod entry;
 mod history;
 mod outside;
 mod text;

@@ -1,4 +1,4 @@
-ghost use Rattle.std.specs.Prelude.{◌≡◌, ◌^◌, ◌-◌, ◌<◌, ◌==◌, [], ◌∷◌, IfOk, IfSome, MatchOption, map, min, position, length};
+ghost use Rattle.std.specs.Prelude.{◌≡◌, ◌^◌, ◌-◌, ◌<◌, ◌≤◌, ◌==◌, [], ◌∷◌, IfOk, IfSome, MatchOption, map, min, position, length};
 ghost use Rattle.std.specs.List.{list_all, slice_split};
 ghost use Rattle.std.specs.Char.{is_ascii_digit};
 ghost use Rattle.std.specs.Str.Lines.{lines, strip_carriage_return};
@@ -120,7 +120,8 @@ fn reads_as_number(field: &[u8]) -> bool
 /// The number that a field says, where it is one and lies in the range.
 #[tactic(auto, unfolding(crate::specs::Text::number_in))]
 pub(crate) fn number_within(least: u32, most: u32, field: &[u8]) -> Option<u32>
-    ensures { result ≡ number_in least most field.now }
+    ensures value { result ≡ number_in least most field.now }
+    ensures range { IfSome result (λ number. (least ≤ number) × (number ≤ most)) }
 {
     if !reads_as_number(field) {
         return None;
