@@ -10,6 +10,9 @@ use Rattle.world.specs.declared.entry.Entry.{Entry}
 use Rattle.world.specs.declared.entry.Entry.TheVariants as entries
 use Rattle.world.specs.declared.entry.SenseLine.{SenseLine}
 use Rattle.world.specs.declared.entry.CycleLine.{CycleLine}
+use Rattle.world.specs.declared.error.TraceErr.{TraceErr}
+use Rattle.world.specs.declared.error.TraceErr.TheVariants.{BadLine, TooLong}
+use Rattle.world.specs.declared.draft.Draft.{Draft}
 
 -- `start MS`, the clock at the beginning
 abbrev pub start_of : List (List ℕ) → Option Entry
@@ -65,3 +68,108 @@ entry_of (word ∷ args) =
   else if bytes_eq word (codes "sense") then sense_of args
   else if bytes_eq word (codes "cycle") then cycle_of args
   else None
+
+-- What the lines of a trace have said so far; `begun` where its first line came.
+abbrev pub with_start : Draft → ℕ → Option Draft
+with_start d ms = if is_some d.start then None else Some (record d { start = Some ms })
+
+abbrev pub with_rate : Draft → ℕ → Option Draft
+with_rate d ticks = if is_some d.rate then None else Some (record d { rate = Some ticks })
+
+abbrev pub with_period : Draft → ℕ → Option Draft
+with_period d ticks = if is_some d.period then None else Some (record d { period = Some ticks })
+
+-- one line more, unless it says a second time what may be said once
+abbrev pub with_entry : Draft → Entry → Option Draft
+with_entry d (entries.Start ms) = with_start d ms
+with_entry d (entries.Rate ticks) = with_rate d ticks
+with_entry d (entries.Period ticks) = with_period d ticks
+with_entry d (entries.Sense line) = Some (record d { senses = d.senses ++ line ∷ [] })
+with_entry d (entries.Cycle line) = Some (record d { cycles = d.cycles ++ line ∷ [] })
+
+-- the first line is `tics-trace 1`
+abbrev pub is_first : List (List ℕ) → Bool
+is_first [] = false
+is_first (word ∷ []) = false
+is_first (word ∷ version ∷ []) = bytes_eq word (codes "tics-trace") && bytes_eq version (codes "1")
+is_first (word ∷ version ∷ more ∷ args) = false
+
+unfoldable pub with_fields : Draft → List (List ℕ) → Option Draft
+with_fields d args =
+  if d.begun then option_and_then (with_entry d) (entry_of args)
+  else if is_first args then Some (record d { begun = true }) else None
+
+unfoldable pub with_line : Draft → List ℕ → Option Draft
+with_line d line = if is_skipped line then Some d else if is_padded line then None else with_fields d (fields line)
+
+-- what the lines from number n on say after d, or the number of the first bad one
+abbrev pub or_bad : ℕ → (Draft → Result Draft TraceErr) → Option Draft → Result Draft TraceErr
+or_bad n next None = Err (BadLine n)
+or_bad n next (Some d) = next d
+
+abbrev pub read_from : ℕ → Draft → List (List ℕ) → Result Draft TraceErr
+read_from n d [] = if d.begun then Ok d else Err (BadLine 1)
+read_from n d (line ∷ more) = or_bad n (λ next. read_from (n + 1) next more) (with_line d line)
+
+-- no line is read yet
+abbrev pub no_line : Draft
+no_line = record { begun = false; start = None; rate = None; period = None; senses = []; cycles = [] }
+
+-- the totals of a trace
+abbrev pub start_clock : Draft → ℕ
+start_clock d = unwrap_or d.start 0
+
+abbrev pub ticks_in_ms : Draft → ℕ
+ticks_in_ms d = unwrap_or d.rate 1000
+
+abbrev pub all_cycles : Draft → ℕ
+all_cycles d = sum_by (λ c. c.count) d.cycles
+
+abbrev pub all_ticks : Draft → ℕ
+all_ticks d = sum_by (λ c. c.ticks * c.count) d.cycles
+
+abbrev pub all_off : Draft → ℕ
+all_off d = sum_by (λ c. c.off * c.count) d.cycles
+
+abbrev pub all_values : Draft → ℕ
+all_values d = sum_by (λ s. length s.values) d.senses
+
+abbrev pub last_clock : Draft → ℕ
+last_clock d = start_clock d + all_ticks d / ticks_in_ms d + all_off d
+
+-- no total is passed
+abbrev pub is_within : Draft → Bool
+is_within d =
+  nat_le (all_cycles d) 10000 && nat_le (all_ticks d) 4000000 && nat_le (all_values d) 65536 && nat_lt (last_clock d) (2 ^ 31)
+
+-- the values of a channel, those of all its lines one after another
+abbrev pub channel_of : List SenseLine → ℕ → List ℕ
+channel_of senses channel = flat_map (λ s. if s.channel == channel then s.values else []) senses
+
+abbrev pub channels_below : ℕ → List SenseLine → List (List ℕ)
+channels_below zero senses = []
+channels_below (suc n) senses = channels_below n senses ++ channel_of senses n ∷ []
+
+-- each line stands for as many cycles as it counts
+abbrev pub cycles_of : List CycleLine → List PowerCycle
+cycles_of = flat_map (λ c. replicate c.count (record { ticks = c.ticks; off = c.off }))
+
+unfoldable pub plan_of : Draft → Plan
+plan_of d = record {
+  start = start_clock d;
+  rate = ticks_in_ms d;
+  period = unwrap_or d.period 1000;
+  channels = channels_below 16 d.senses;
+  cycles = cycles_of d.cycles
+  }
+
+abbrev pub plan_within : Bool → Draft → Result Plan TraceErr
+plan_within short d = if short && is_within d then Ok (plan_of d) else Err TooLong
+
+abbrev pub plan_read : Bool → Result Draft TraceErr → Result Plan TraceErr
+plan_read short (Ok d) = plan_within short d
+plan_read short (Err e) = Err e
+
+-- what a trace says, or why it is refused: the first bad line, and where no line is bad a total that is passed
+unfoldable pub trace_of : List ℕ → Result Plan TraceErr
+trace_of text = plan_read (nat_le (length text) 1048576) (read_from 1 no_line (lines text))

@@ -2,11 +2,15 @@
 #![tactic(auto)]
 
 mod cycle;
+mod draft;
 mod entry;
+mod error;
 mod history;
 mod outside;
+mod reading_trace;
 mod text;
 
 pub use cycle::PowerCycle;
+pub use error::TraceErr;
 pub use history::{History, Record, Shown};
 pub use outside::{Off, World};
