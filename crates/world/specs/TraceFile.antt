@@ -1,5 +1,5 @@
 -- The text of a trace: what each line says, and what all lines say.
-use Rattle.std.specs.Prelude.{ℕ, ◌+◌, ◌-◌, ◌*◌, ◌/◌, ◌^◌, ◌==◌, ◌&&◌, Bool, true, false, List, [], ◌∷◌, ◌++◌, Option, Some, None, Result, Ok, Err, codes, length, flat_map, replicate, sum_by, unwrap_or, is_some, nat_lt, nat_le, zero, suc, if◌then◌else◌}
+use Rattle.std.specs.Prelude.{ℕ, ⊤, IfSome, ◌<◌, ◌+◌, ◌-◌, ◌*◌, ◌/◌, ◌^◌, ◌==◌, ◌&&◌, Bool, true, false, List, [], ◌∷◌, ◌++◌, Option, Some, None, Result, Ok, Err, codes, length, flat_map, replicate, sum_by, unwrap_or, is_some, nat_lt, nat_le, zero, suc, if◌then◌else◌}
 use Rattle.std.specs.Option.{option_map, option_and_then}
 use Rattle.std.specs.Str.{bytes_eq}
 use Rattle.std.specs.Str.Lines.{lines}
@@ -68,6 +68,17 @@ entry_of (word ∷ args) =
   else if bytes_eq word (codes "sense") then sense_of args
   else if bytes_eq word (codes "cycle") then cycle_of args
   else None
+
+-- a millisecond has at least one tick
+abbrev pub IsRated : Entry → Type 0
+IsRated (entries.Start ms) = ⊤
+IsRated (entries.Rate ticks) = 0 < ticks
+IsRated (entries.Period ticks) = ⊤
+IsRated (entries.Sense line) = ⊤
+IsRated (entries.Cycle line) = ⊤
+
+abbrev pub HasRate : Draft → Type 0
+HasRate d = IfSome d.rate (λ ticks. 0 < ticks)
 
 -- What the lines of a trace have said so far; `begun` where its first line came.
 abbrev pub with_start : Draft → ℕ → Option Draft
@@ -146,13 +157,16 @@ is_within d =
 abbrev pub channel_of : List SenseLine → ℕ → List ℕ
 channel_of senses channel = flat_map (λ s. if s.channel == channel then s.values else []) senses
 
-abbrev pub channels_below : ℕ → List SenseLine → List (List ℕ)
+unfoldable pub channels_below : ℕ → List SenseLine → List (List ℕ)
 channels_below zero senses = []
 channels_below (suc n) senses = channels_below n senses ++ channel_of senses n ∷ []
 
 -- each line stands for as many cycles as it counts
+abbrev pub copies_of : CycleLine → List PowerCycle
+copies_of c = replicate c.count (record { ticks = c.ticks; off = c.off })
+
 abbrev pub cycles_of : List CycleLine → List PowerCycle
-cycles_of = flat_map (λ c. replicate c.count (record { ticks = c.ticks; off = c.off }))
+cycles_of = flat_map copies_of
 
 unfoldable pub plan_of : Draft → Plan
 plan_of d = record {

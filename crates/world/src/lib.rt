@@ -9,8 +9,10 @@ mod history;
 mod outside;
 mod reading_trace;
 mod text;
+mod trace;
 
 pub use cycle::PowerCycle;
 pub use error::TraceErr;
 pub use history::{History, Record, Shown};
 pub use outside::{Off, World};
+pub use trace::{Trace, parse_trace};
