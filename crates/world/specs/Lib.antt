@@ -1,4 +1,5 @@
 pub mod Plan
+pub mod ReadingsFile
 pub mod Refusal
 pub mod Text
 pub mod TraceFile

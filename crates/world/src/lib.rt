@@ -7,7 +7,9 @@ mod entry;
 mod error;
 mod history;
 mod outside;
+mod reading_readings;
 mod reading_trace;
+mod readings_draft;
 mod text;
 mod trace;
 
@@ -15,4 +17,5 @@ pub use cycle::PowerCycle;
 pub use error::TraceErr;
 pub use history::{History, Record, Shown};
 pub use outside::{Off, World};
+pub use reading_readings::parse_readings;
 pub use trace::{Trace, parse_trace};
