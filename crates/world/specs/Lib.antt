@@ -3,4 +3,5 @@ pub mod ReadingsFile
 pub mod Refusal
 pub mod Text
 pub mod TraceFile
+pub mod TraceWorld
 pub mod World

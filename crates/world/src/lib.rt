@@ -12,6 +12,7 @@ mod reading_trace;
 mod readings_draft;
 mod text;
 mod trace;
+mod trace_world;
 
 pub use cycle::PowerCycle;
 pub use error::TraceErr;
@@ -19,3 +20,4 @@ pub use history::{History, Record, Shown};
 pub use outside::{Off, World};
 pub use reading_readings::parse_readings;
 pub use trace::{Trace, parse_trace};
+pub use trace_world::TraceWorld;

@@ -1,6 +1,8 @@
-ghost use Rattle.std.specs.Prelude.{◌≡◌, ◌<◌, ◌^◌, Ok, length, IfOk, IfErr, IsTrue};
+ghost use Rattle.std.specs.Prelude.{◌≡◌, ◌<◌, ◌≤◌, ◌^◌, Some, Ok, length, IfOk, IfErr, IsTrue};
 ghost use Rattle.std.specs.Str.Lines.{lines};
+ghost use Rattle.world.specs.Plan.{ticks_of};
 ghost use Rattle.world.specs.Refusal.{IsRefusalOf};
+ghost use Rattle.world.specs.TraceWorld.{value_at};
 ghost use Rattle.world.specs.TraceFile.{trace_of, plan_of, is_within, HasRate};
 
 use crate::cycle::PowerCycle;
@@ -33,6 +35,86 @@ impl Model for Trace {
     ghost view = { λ t. record { start = t.start; rate = t.rate; period = t.period; channels = map (λ c. c.items) t.channels.items; cycles = t.cycles.items } };
 
     ghost invariant = { λ t. IsPlan (record { start = t.start; rate = t.rate; period = t.period; channels = map (λ c. c.items) t.channels.items; cycles = t.cycles.items }) };
+}
+
+impl Trace {
+    ghost use Rattle.std.specs.Prelude.{slice_get};
+    ghost use Rattle.world.specs.Plan.{IsPlan, ticks_of};
+    ghost use Rattle.world.specs.TraceWorld.{values_of, value_at};
+
+    /// The clock at the beginning in milliseconds, below 2^31.
+    pub(crate) fn start(&self) -> u32
+        ensures value { result ≡ (self.now).start }
+        ensures plan { IsPlan self.now }
+    {
+        self.start
+    }
+
+    /// The ticks in a millisecond, 1 to 4,000,000.
+    pub(crate) fn rate(&self) -> u32
+        ensures { result ≡ (self.now).rate }
+    {
+        self.rate
+    }
+
+    /// The ticks between two checkpoints that the user asks for, 1 to 4,000,000.
+    pub(crate) fn period(&self) -> u32
+        ensures { result ≡ (self.now).period }
+    {
+        self.period
+    }
+
+    /// How many power cycles there are, at most 10,000.
+    pub(crate) fn cycle_count(&self) -> u32
+        ensures { result ≡ length (self.now).cycles }
+    {
+        self.cycles.len() as u32
+    }
+
+    /// A power cycle, by its place from 0.
+    pub(crate) fn cycle(&self, place: u32) -> PowerCycle
+        requires { place < length (self.now).cycles }
+        ensures { slice_get (self.now).cycles place ≡ Some result }
+    {
+        self.cycles[place as usize]
+    }
+
+    /// The ticks of all power cycles, at most 4,000,000.
+    pub(crate) fn ticks(&self) -> u32
+        ensures { result ≡ ticks_of (self.now).cycles }
+    {
+        sum_of_ticks(self.cycles.as_slice())
+    }
+
+    /// The value at a place of a channel, from 0: the last one repeats, and a channel without values gives 0.
+    pub(crate) fn value(&self, channel: u8, place: u32) -> u16
+        requires { channel < 16 }
+        ensures { result ≡ value_at (values_of self.now channel) place }
+    {
+        value_or_last(self.channels[channel as usize].as_slice(), place)
+    }
+}
+
+/// The ticks of these power cycles.
+fn sum_of_ticks(cycles: &[PowerCycle]) -> u32
+    requires { ticks_of cycles.now ≤ 4000000 }
+    ensures { result ≡ ticks_of cycles.now }
+{
+    let mut total: u32 = 0;
+    for cycle in cycles {
+        total += cycle.ticks;
+    }
+    total
+}
+
+/// The value at a place, the last one past the end, and 0 of no values.
+fn value_or_last(values: &[u16], place: u32) -> u16
+    ensures { result ≡ value_at values.now place }
+{
+    if values.is_empty() {
+        return 0;
+    }
+    values[(place as usize).min(values.len() - 1)]
 }
 
 /// The trace that the lines make, none of whose totals is passed.
