@@ -3,7 +3,7 @@ use Rattle.std.proofs.Common.{◌≡◌, ◌≢◌, ℕ, ◌+◌, ◌-◌, ◌*�
 use Rattle.std.proofs.lemmas.Grind.{common_steps}
 use Rattle.std.proofs.lemmas.Nat.{div-add-mod', div-mul-add, le-div}
 use Rattle.std.proofs.Math.Nat.{div-mul-le_self, div-eq_of_lt, mod-eq_of_lt}
-use Rattle.std.proofs.lemmas.List.{take-append-le, length-append, length-map, length-take-le, take_all, get_or-set_same, get_or-set_other}
+use Rattle.std.proofs.lemmas.List.{take-append-le, take_more, map-append, length-append, length-map, length-take-le, take_all, get_or-set_same, get_or-set_other}
 use Rattle.std.proofs.lemmas.List.Elements.{filter-append}
 use Rattle.std.proofs.lemmas.Option.{slice_get_within, get_or_from_slice_get}
 use Rattle.std.proofs.lemmas.Bool.Decides.{nat_tests}
@@ -146,15 +146,16 @@ kept_tick p b s l c u k rs ts pos more h =
       clocks = h.clocks;
     }
 
-pub kept_turn : (p : Plan) (b s l c u : ℕ) (k : List ℕ) (rs : List Reading) (ts : List ℕ) → 0 < l → u ≡ 1 → Kept p b s l c u k rs ts → Kept p b (s + 1) (l - 1) (c + 1) p.rate k rs ts
-kept_turn p b s l c u k rs ts pos one h =
-    let d = div-wrap s p.rate (omega (arith, h.until)) in
+pub kept_turn : (p : Plan) (b s l c u r : ℕ) (k : List ℕ) (rs : List Reading) (ts : List ℕ) → 0 < l → u ≤ 1 → r ≡ p.rate → Kept p b s l c u k rs ts → Kept p b (s + 1) (l - 1) (c + 1) r k rs ts
+kept_turn p b s l c u r k rs ts pos low is h =
+    let one : u ≡ 1 = omega (arith, h.until, h.plan.rate) in
+    let d = div-wrap s p.rate (omega (arith, h.until, one)) in
     record {
       plan = h.plan;
       begun = h.begun;
       power = omega (arith, h.power);
       clock = omega (arith, h.clock, d.0);
-      until = omega (arith, d.1);
+      until = omega (arith, d.1, is);
       given = omega (arith, h.given);
       timed = h.timed;
       taken = h.taken;
@@ -237,4 +238,39 @@ kept_follows p b s l c u k rs ts h =
       clock = h.clock ∙ ap (λ (n : ℕ). clock_at p s n) (sym e);
       senses = h.senses;
       clocks = subst (λ (n : ℕ). AreClocks p n rs ts) (sym e) h.clocks;
+    }
+
+-- the clock after one off time more is below 2^31
+pub clock_after : (p : Plan) (b s l c u off : ℕ) (k : List ℕ) (rs : List Reading) (ts : List ℕ) → b ≤ length p.cycles → off_of (take b p.cycles) ≡ off_of (take (b - 1) p.cycles) + off
+  → Kept p b s l c u k rs ts → c + off < 2 ^ 31
+clock_after p b s l c u off k rs ts within is h =
+    let total : ticks_of (take b p.cycles) ≤ ticks_of p.cycles = sum_by-take-le (λ (x : PowerCycle). x.ticks) p.cycles b in
+    let all : off_of (take b p.cycles) ≤ off_of p.cycles = sum_by-take-le (λ (x : PowerCycle). x.off) p.cycles b in
+    let below : s / p.rate ≤ ticks_of p.cycles / p.rate = div-mono s (ticks_of p.cycles) p.rate h.plan.rate (omega (arith, h.power, total)) in
+    omega (arith, h.clock, all, is, below, h.plan.clock)
+
+-- the off time of the last of these cycles
+pub off_last : (cycles : List PowerCycle) (b : ℕ) (cycle : PowerCycle) → 0 < b → slice_get cycles (b - 1) ≡ Some cycle → off_of (take b cycles) ≡ off_of (take (b - 1) cycles) + cycle.off
+off_last cycles b cycle pos at =
+    let within : b - 1 < length cycles = slice_get_within cycles (b - 1) cycle at in
+    let last : (get_or cycles (b - 1) cycle).off ≡ cycle.off = ap (λ (x : PowerCycle). x.off) (get_or_from_slice_get cycles (b - 1) cycle cycle at) in
+    let e : b - 1 + 1 ≡ b = omega arith in
+    omega (arith, sum_by_more (λ (x : PowerCycle). x.off) cycles (b - 1) cycle within, last, ap (λ (n : ℕ). off_of (take n cycles)) e)
+
+-- one power cycle more has begun
+pub wakes : (p : Plan) (b s l c off : ℕ) (cycle : PowerCycle) (rs : List Reading) (ts : List ℕ) → slice_get p.cycles b ≡ Some cycle → Wakes (world_of p b s l c rs ts) (world_of p (b + 1) s cycle.ticks (c + off) rs ts)
+wakes p b s l c off cycle rs ts at =
+    let within : b < length p.cycles = slice_get_within p.cycles b cycle at in
+    let last : get_or p.cycles b cycle ≡ cycle = get_or_from_slice_get p.cycles b cycle cycle at in
+    let ticks : PowerCycle → ℕ = λ x. x.ticks in
+    let front : take (b + 1) p.cycles ≡ take b p.cycles ++ cycle ∷ [] = take_more p.cycles b cycle within ∙ ap (λ (x : PowerCycle). take b p.cycles ++ x ∷ []) last in
+    record {
+      plan = refl;
+      cycles = omega (arith, within);
+      spans = ap (map ticks) front ∙ map-append ticks (take b p.cycles) (cycle ∷ []);
+      later = omega arith;
+      spent = refl;
+      period = refl;
+      readings = refl;
+      times = refl;
     }

@@ -1,3 +1,4 @@
+pub mod History
 pub mod Plan
 pub mod ReadingsFile
 pub mod Refusal

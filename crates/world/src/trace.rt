@@ -38,8 +38,8 @@ impl Model for Trace {
 }
 
 impl Trace {
-    ghost use Rattle.std.specs.Prelude.{slice_get};
-    ghost use Rattle.world.specs.Plan.{IsPlan, ticks_of};
+    ghost use Rattle.std.specs.Prelude.{◌-◌, ◌+◌, slice_get, take};
+    ghost use Rattle.world.specs.Plan.{IsPlan, ticks_of, off_of};
     ghost use Rattle.world.specs.TraceWorld.{values_of, value_at};
 
     /// The clock at the beginning in milliseconds, below 2^31.
@@ -77,6 +77,19 @@ impl Trace {
         ensures { slice_get (self.now).cycles place ≡ Some result }
     {
         self.cycles[place as usize]
+    }
+
+    /// The off time of the last of the cycles that have begun, or 0 before the first one, in milliseconds.
+    #[tactic(auto, using(crate::proofs::TraceWorldLemmas::off_last))]
+    pub(crate) fn off_behind(&self, begun: u32) -> u32
+        requires { begun ≤ length (self.now).cycles }
+        ensures { off_of (take begun (self.now).cycles) ≡ off_of (take (begun - 1) (self.now).cycles) + result }
+    {
+        if begun == 0 {
+            0
+        } else {
+            self.cycle(begun - 1).off
+        }
     }
 
     /// The ticks of all power cycles, at most 4,000,000.
