@@ -1,10 +1,12 @@
-ghost use Rattle.std.specs.Prelude.{◌≡◌, ◌/◌, ◌%◌, length, slice_index, slice_set, replicate, IfOk};
+ghost use Rattle.std.specs.Prelude.{◌≡◌, ◌/◌, ◌%◌, length, slice_index, slice_set, replicate, IfOk, OnOk, OnErr};
 ghost use Rattle.base16.specs.Memory.{words_of, put};
 ghost use Rattle.fram.specs.Contents.{poked_after};
+ghost use Rattle.world.specs.World.{IsLawful, Spends};
 
 use base16::{NoMemory, Words};
 use std::alloc::Global;
 use std::marker::Model;
+use world::{Off, World};
 
 /// How many words the memory has.
 pub const WORDS: usize = 32768;
@@ -65,6 +67,26 @@ impl Fram {
         if address < SEGMENTS_START || address >= SEGMENTS_END {
             self.poked = self.poked.saturating_add(1);
         }
+    }
+
+    /// Spends a tick and then sets the word at an even byte address. It is `Off` exactly where the power cycle has no
+    /// tick left, and then nothing changes.
+    pub fn write<W: World>(&mut self, world: &mut W, address: u16, word: u16) -> Result<(), Off>
+        requires { address % 2 ≡ 0 }
+        ensures written { OnOk result (self.new.words ≡ slice_set self.old.words (address / 2) word) }
+        ensures tick { OnOk result (Spends 1 (W.state world.old) (W.state world.new)) }
+        ensures off { OnErr result ((W.state world.old).left ≡ 0) }
+        ensures kept { OnErr result (self.new.words ≡ self.old.words) }
+        ensures world_kept { OnErr result (W.state world.new ≡ W.state world.old) }
+        ensures poked { self.new.poked ≡ self.old.poked }
+        ensures size { length self.new.words ≡ 32768 }
+        ensures lawful_before { IsLawful (W.state world.old) }
+        ensures lawful { IsLawful (W.state world.new) }
+    {
+        let place = &mut self.words[address as usize / 2];
+        world.tick()?;
+        *place = word;
+        Ok(())
     }
 }
 

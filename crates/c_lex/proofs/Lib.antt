@@ -1,0 +1,10 @@
+pub mod Closing
+pub mod Fronts
+pub mod LexLaws
+pub mod Measured
+pub mod Outcome
+pub mod Shorts
+pub mod Slices
+pub mod Spanned
+pub mod Turns
+pub mod Values

@@ -1,0 +1,5 @@
+pub mod Bytes
+pub mod Measures
+pub mod Pieces
+pub mod Spelling
+pub mod Tokens

@@ -1,0 +1,3 @@
+pub mod ExprMeasures
+pub mod Sums
+pub mod StatementMeasures

@@ -1,0 +1,19 @@
+//! One step of the 16-bit core: registers and memory after one instruction (MSP430 user's guide, 16-bit CPU).
+#![tactic(auto)]
+
+mod arithmetic;
+mod change;
+mod instruction;
+mod machine;
+mod memory;
+mod operand;
+mod plain;
+mod registers;
+mod status;
+
+pub use machine::{Stepped, step};
+pub use memory::{Denied, Memory};
+pub use plain::PlainMemory;
+
+#[cfg(test)]
+mod tests;

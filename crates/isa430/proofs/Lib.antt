@@ -1,0 +1,4 @@
+pub mod Fields
+pub mod InMemory
+pub mod Front
+pub mod Formats

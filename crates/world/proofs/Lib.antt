@@ -1,0 +1,4 @@
+pub mod PlanLemmas
+pub mod ReadingsLemmas
+pub mod TextLemmas
+pub mod TraceWorldLemmas

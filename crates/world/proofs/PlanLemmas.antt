@@ -1,0 +1,66 @@
+-- What the lines of a trace stand for, in sums.
+use Rattle.std.proofs.Common.{◌≡◌, ℕ, ◌+◌, ◌*◌, ◌/◌, ◌<◌, ◌≤◌, ◌^◌, ◌&&◌, nat_le, nat_lt, Bool, true, false, Option, Some, None, unwrap_or, IfSome, lit<, List, [], ◌∷◌, ◌++◌, length, flat_map, replicate, sum_by, zero, suc, refl, sym, ◌∙◌, ap, subst, arith, IsTrue}
+use Rattle.std.proofs.lemmas.Grind.{common_steps}
+use Rattle.std.proofs.lemmas.Bool.Decides.{nat_tests}
+use Rattle.std.proofs.lemmas.List.Sums.{sum_by-append, sum_by-cons}
+use Rattle.std.proofs.lemmas.List.{length-replicate, length-append}
+use borrow.Author.Tests.{ltb-true, leb-true}
+use Rattle.world.specs.Plan.{Plan, IsPlan, ticks_of, off_of}
+use Rattle.world.specs.TraceFile.{copies_of, cycles_of, channel_of, channels_below, all_values, last_clock, start_clock, ticks_in_ms, all_cycles, all_ticks, all_off, is_within, plan_of, HasRate}
+use Rattle.world.specs.declared.cycle.PowerCycle.{PowerCycle}
+use Rattle.world.specs.declared.entry.CycleLine.{CycleLine}
+use Rattle.world.specs.declared.entry.SenseLine.{SenseLine}
+use Rattle.world.specs.declared.draft.Draft.{Draft}
+
+sum_by-replicate : (f : PowerCycle → ℕ) (n : ℕ) (x : PowerCycle) → sum_by f (replicate n x) ≡ f x * n
+sum_by-replicate f zero x = omega arith
+sum_by-replicate f (suc n) x = omega (arith, sum_by-replicate f n x, sum_by-cons f x (replicate n x))
+
+-- a sum over the cycles that lines stand for
+sum_by-cycles_of : (f : PowerCycle → ℕ) (g : CycleLine → ℕ) → ((c : CycleLine) → sum_by f (copies_of c) ≡ g c) → (lines : List CycleLine) → sum_by f (cycles_of lines) ≡ sum_by g lines
+sum_by-cycles_of f g same [] = refl
+sum_by-cycles_of f g same (c ∷ lines) =
+    omega (arith, sum_by-append f (copies_of c) (cycles_of lines), same c, sum_by-cycles_of f g same lines, sum_by-cons g c lines)
+
+length-copies_of : (c : CycleLine) → length (copies_of c) ≡ c.count
+length-copies_of c = length-replicate c.count (record { ticks = c.ticks; off = c.off })
+
+length-cycles_of : (lines : List CycleLine) → length (cycles_of lines) ≡ sum_by (λ c. c.count) lines
+length-cycles_of [] = refl
+length-cycles_of (c ∷ lines) =
+    omega (arith, length-append (copies_of c) (cycles_of lines), length-copies_of c, length-cycles_of lines, sum_by-cons (λ (x : CycleLine). x.count) c lines)
+
+length-channels_below : (n : ℕ) (senses : List SenseLine) → length (channels_below n senses) ≡ n
+unfolding channels_below
+length-channels_below zero senses = refl
+length-channels_below (suc n) senses =
+    omega (arith, length-append (channels_below n senses) (channel_of senses n ∷ []), length-channels_below n senses)
+
+all_four : (a b c d : Bool) → IsTrue (a && b && c && d) → (a ≡ true) × (b ≡ true) × (c ≡ true) × (d ≡ true)
+all_four true true true true h = (refl, refl, refl, refl)
+all_four false b c d h = cc
+all_four true false c d h = cc
+all_four true true false d h = cc
+all_four true true true false h = cc
+
+rated : (o : Option ℕ) → IfSome o (λ t. 0 < t) → 0 < unwrap_or o 1000
+rated None h = lit< tt
+rated (Some t) h = h
+
+pub plan_is_plan : (d : Draft) → HasRate d → IsTrue (is_within d) → IsPlan (plan_of d)
+unfolding plan_of
+plan_is_plan d rate within =
+    let t = all_four (nat_le (all_cycles d) 10000) (nat_le (all_ticks d) 4000000) (nat_le (all_values d) 65536) (nat_lt (last_clock d) (2 ^ 31)) within in
+    let ticks : ticks_of (cycles_of d.cycles) ≡ all_ticks d =
+      sum_by-cycles_of (λ c. c.ticks) (λ c. c.ticks * c.count) (λ c. sum_by-replicate (λ c. c.ticks) c.count (record { ticks = c.ticks; off = c.off })) d.cycles in
+    let off : off_of (cycles_of d.cycles) ≡ all_off d =
+      sum_by-cycles_of (λ c. c.off) (λ c. c.off * c.count) (λ c. sum_by-replicate (λ c. c.off) c.count (record { ticks = c.ticks; off = c.off })) d.cycles in
+    let clock : start_clock d + ticks_of (cycles_of d.cycles) / ticks_in_ms d + off_of (cycles_of d.cycles) ≡ last_clock d =
+      ap (λ (n : ℕ). start_clock d + n / ticks_in_ms d + off_of (cycles_of d.cycles)) ticks ∙ ap (λ (n : ℕ). start_clock d + all_ticks d / ticks_in_ms d + n) off in
+    record {
+      rate = rated d.rate rate;
+      channels = length-channels_below 16 d.senses;
+      cycles = omega (arith, leb-true (all_cycles d) 10000 t.0, length-cycles_of d.cycles);
+      ticks = omega (arith, leb-true (all_ticks d) 4000000 t.1, ticks);
+      clock = omega (arith, ltb-true (last_clock d) (2 ^ 31) t.3, clock);
+    }

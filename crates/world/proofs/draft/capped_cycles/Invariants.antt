@@ -1,0 +1,5 @@
+use Rattle.std.proofs.Common.{◌≡◌, ◌*◌, ◌^◌, ◌-◌, min, take, length, sum_by}
+use Rattle.world.proofs.draft.capped_cycles.Given as goal
+
+abbrev pub invariant-loop-line : goal.invariant-loop-line
+invariant-loop-line l = l.total ≡ min (sum_by (λ c. c.count) (take l.line-index l.lines)) (2 ^ 64 - 1)
