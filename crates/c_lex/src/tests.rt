@@ -284,3 +284,25 @@ fn a_source_of_262144_bytes_is_read(rt: HostRuntime) -> Result<(), Fail> {
     assert_eq!(rt; tokens.len(), 131_072);
     Ok(())
 }
+
+#[test]
+fn a_refusal_says_its_place(rt: HostRuntime) -> Result<(), Fail> {
+    let refusals = [
+        (LexErr::BadByte { at: 0 }, "no token begins at byte 0"),
+        (
+            LexErr::OpenComment { at: 12 },
+            "the comment at byte 12 has no end",
+        ),
+        (LexErr::BadNumber { at: 7 }, "no number stands at byte 7"),
+        (
+            LexErr::BadChar { at: 3 },
+            "no character constant stands at byte 3",
+        ),
+        (LexErr::NoMemory, "memory ran out"),
+    ];
+    for (refusal, wanted) in refusals {
+        let text = format!(in rt.alloc(); "{refusal}")?;
+        assert_eq!(rt; text.as_str(), wanted);
+    }
+    Ok(())
+}
