@@ -1,11 +1,9 @@
 -- What the lines of a trace stand for, in sums.
-use Rattle.std.proofs.Common.{◌≡◌, ℕ, ◌+◌, ◌*◌, ◌/◌, ◌<◌, ◌≤◌, ◌^◌, ◌&&◌, nat_le, nat_lt, Bool, true, false, Option, Some, None, unwrap_or, IfSome, lit<, List, [], ◌∷◌, ◌++◌, length, flat_map, replicate, sum_by, zero, suc, refl, sym, ◌∙◌, ap, subst, arith, IsTrue}
-use Rattle.std.proofs.lemmas.Grind.{common_steps}
-use Rattle.std.proofs.lemmas.Bool.Decides.{nat_tests}
+use Rattle.std.proofs.Common.{◌≡◌, ℕ, ◌+◌, ◌*◌, ◌/◌, ◌<◌, ◌^◌, ◌&&◌, nat_le, nat_lt, Bool, true, false, Option, Some, None, unwrap_or, IfSome, lit<, List, [], ◌∷◌, length, replicate, sum_by, zero, suc, refl, ◌∙◌, ap, arith, IsTrue}
 use Rattle.std.proofs.lemmas.List.Sums.{sum_by-append, sum_by-cons}
 use Rattle.std.proofs.lemmas.List.{length-replicate, length-append}
 use borrow.Author.Tests.{ltb-true, leb-true}
-use Rattle.world.specs.Plan.{Plan, IsPlan, ticks_of, off_of}
+use Rattle.world.specs.Plan.{IsPlan, ticks_of, off_of}
 use Rattle.world.specs.TraceFile.{copies_of, cycles_of, channel_of, channels_below, all_values, last_clock, start_clock, ticks_in_ms, all_cycles, all_ticks, all_off, is_within, plan_of, HasRate}
 use Rattle.world.specs.declared.cycle.PowerCycle.{PowerCycle}
 use Rattle.world.specs.declared.entry.CycleLine.{CycleLine}
@@ -52,11 +50,11 @@ unfolding plan_of
 plan_is_plan d rate within =
     let t = all_four (nat_le (all_cycles d) 10000) (nat_le (all_ticks d) 4000000) (nat_le (all_values d) 65536) (nat_lt (last_clock d) (2 ^ 31)) within in
     let ticks : ticks_of (cycles_of d.cycles) ≡ all_ticks d =
-      sum_by-cycles_of (λ c. c.ticks) (λ c. c.ticks * c.count) (λ c. sum_by-replicate (λ c. c.ticks) c.count (record { ticks = c.ticks; off = c.off })) d.cycles in
+    sum_by-cycles_of (λ c. c.ticks) (λ c. c.ticks * c.count) (λ c. sum_by-replicate (λ c. c.ticks) c.count (record { ticks = c.ticks; off = c.off })) d.cycles in
     let off : off_of (cycles_of d.cycles) ≡ all_off d =
-      sum_by-cycles_of (λ c. c.off) (λ c. c.off * c.count) (λ c. sum_by-replicate (λ c. c.off) c.count (record { ticks = c.ticks; off = c.off })) d.cycles in
+    sum_by-cycles_of (λ c. c.off) (λ c. c.off * c.count) (λ c. sum_by-replicate (λ c. c.off) c.count (record { ticks = c.ticks; off = c.off })) d.cycles in
     let clock : start_clock d + ticks_of (cycles_of d.cycles) / ticks_in_ms d + off_of (cycles_of d.cycles) ≡ last_clock d =
-      ap (λ (n : ℕ). start_clock d + n / ticks_in_ms d + off_of (cycles_of d.cycles)) ticks ∙ ap (λ (n : ℕ). start_clock d + all_ticks d / ticks_in_ms d + n) off in
+    ap (λ (n : ℕ). start_clock d + n / ticks_in_ms d + off_of (cycles_of d.cycles)) ticks ∙ ap (λ (n : ℕ). start_clock d + all_ticks d / ticks_in_ms d + n) off in
     record {
       rate = rated d.rate rate;
       channels = length-channels_below 16 d.senses;

@@ -1,6 +1,6 @@
 -- A reading more keeps a list of readings in order.
-use Rattle.std.proofs.Common.{◌≡◌, ℕ, ◌+◌, ◌<◌, ◌≤◌, ◌^◌, List, [], ◌∷◌, ◌++◌, refl, ◌∙◌, arith}
-use Rattle.base16.specs.Readings.{AreReadingsFrom, IsReadings}
+use Rattle.std.proofs.Common.{◌≡◌, ℕ, ◌<◌, ◌≤◌, ◌^◌, List, [], ◌∷◌, ◌++◌, refl, ◌∙◌, arith}
+use Rattle.base16.specs.Readings.{AreReadingsFrom}
 use Rattle.base16.specs.declared.reading.Reading.{Reading}
 use Rattle.base16.specs.declared.reading.Reading.TheVariants.{Sense, Clock}
 use Rattle.world.specs.ReadingsFile.{last_clock_of, IsKept}
@@ -30,10 +30,10 @@ pub kept_sense : (d : ReadingsDraft) (rs : List Reading) (channel value : ℕ) �
 kept_sense d rs channel value c v e h = record {
   readings = rw e (readings_sense 0 d.readings channel value c v h.readings);
   clock = rw e (last_sense 0 d.readings channel value ∙ h.clock);
-  }
+}
 
 pub kept_clock : (d : ReadingsDraft) (rs : List Reading) (ms : ℕ) → ms < 2 ^ 31 → d.clock ≤ ms → rs ≡ d.readings ++ Clock ms ∷ [] → IsKept d → IsKept (record { readings = rs; clock = ms })
 kept_clock d rs ms m l e h = record {
   readings = rw e (readings_clock 0 d.readings ms m (omega (arith, h.clock, l)) h.readings);
   clock = rw e (last_clock 0 d.readings ms);
-  }
+}

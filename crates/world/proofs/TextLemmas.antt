@@ -1,13 +1,12 @@
 -- Lines, fields and numbers, a step at a time.
-use Rattle.std.proofs.Common.{◌≡◌, ℕ, ◌+◌, ◌-◌, ◌*◌, ◌<◌, ◌≤◌, ◌^◌, ◌==◌, Bool, true, false, cond, not, Option, Some, None, List, [], ◌∷◌, ◌++◌, length, take, drop, get_or, filter, fold, min, All, suc, zero, subst, length-drop, position, nat_lt, nat_le, refl, sym, ◌∙◌, ap, arith}
+use Rattle.std.proofs.Common.{◌≡◌, ℕ, ◌+◌, ◌-◌, ◌*◌, ◌<◌, ◌≤◌, ◌^◌, ◌==◌, Bool, true, false, cond, not, Some, None, List, [], ◌∷◌, length, take, drop, get_or, filter, min, All, subst, length-drop, position, nat_lt, refl, sym, ◌∙◌, ap, arith}
 use Rattle.std.specs.List.{slice_split, position_or_len}
 use Rattle.std.specs.Str.Lines.{lines, lines_of_parts, strip_carriage_return}
 use Rattle.std.proofs.lemmas.List.Splits.{slice_split_first, slice_split_none, length-slice_split}
 use Rattle.std.proofs.lemmas.List.Sums.{fold_more, prefix_len_passes}
-use Rattle.std.proofs.lemmas.Grind.{common_steps}
 use Rattle.std.proofs.lemmas.List.{take_all}
 use borrow.Author.Tests.{ltb-true, ltb-false}
-use Rattle.world.specs.Text.{fields, is_space, decimal}
+use Rattle.world.specs.Text.{fields, decimal, length-lines}
 
 some_test : (b : Bool) (n k : ℕ) → cond b (Some n) None ≡ Some k → (b ≡ true) × (n ≡ k)
 some_test true n k h = (refl, cc)
@@ -32,8 +31,8 @@ split_found p xs k h =
     let f = place_found p xs k h in
     let lt : position_or_len p xs < length xs = omega (arith, f.0, f.1) in
     subst (λ (n : ℕ). slice_split p xs ≡ take n xs ∷ slice_split p (take (length xs - (n + 1)) (drop (n + 1) xs))) f.0
-      (slice_split_first p xs 0 lt ∙ ap (λ (ys : List ℕ). take (position_or_len p xs) xs ∷ slice_split p ys)
-        (sym (take_all (length xs - (position_or_len p xs + 1)) (drop (position_or_len p xs + 1) xs) (omega (arith, length-drop (position_or_len p xs + 1) xs)))))
+    (slice_split_first p xs 0 lt ∙ ap (λ (ys : List ℕ). take (position_or_len p xs) xs ∷ slice_split p ys)
+    (sym (take_all (length xs - (position_or_len p xs + 1)) (drop (position_or_len p xs + 1) xs) (omega (arith, length-drop (position_or_len p xs + 1) xs)))))
 
 fails_by_not : (b : Bool) → not b ≡ true → b ≡ false
 fails_by_not true h = cc
@@ -75,3 +74,7 @@ decimal_more xs i h = fold_more (λ n b. 10 * n + (b - 48)) 0 xs i 0 h
 
 pub capped_more : (n m d most : ℕ) → n ≡ min m most → min (min (n * 10) most + d) most ≡ min (10 * m + d) most
 capped_more n m d most h = grind arith
+
+-- a text of fewer than 2^32 - 1 bytes has fewer than 2^32 lines
+pub few_lines : (text : List ℕ) → length text < 2 ^ 32 - 1 → length (lines text) < 2 ^ 32
+few_lines text h = omega (arith, length-lines text)

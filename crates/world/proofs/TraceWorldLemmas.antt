@@ -1,6 +1,5 @@
 -- Each step of the world that plays a trace keeps what it keeps.
-use Rattle.std.proofs.Common.{◌≡◌, ◌≢◌, ℕ, ◌+◌, ◌-◌, ◌*◌, ◌/◌, ◌%◌, ◌<◌, ◌≤◌, ◌^◌, ◌==◌, ◌⊎◌, Bool, true, false, Option, Some, None, List, [], ◌∷◌, ◌++◌, length, map, take, drop, min, count_by, sum_by, filter, slice_get, get_or, set, replicate, suc, zero, refl, sym, ◌∙◌, ap, subst, inl, inr, arith}
-use Rattle.std.proofs.lemmas.Grind.{common_steps}
+use Rattle.std.proofs.Common.{◌≡◌, ◌≢◌, ℕ, ◌+◌, ◌-◌, ◌*◌, ◌/◌, ◌%◌, ◌<◌, ◌≤◌, ◌^◌, ◌⊎◌, Some, List, [], ◌∷◌, ◌++◌, length, map, take, filter, slice_get, get_or, set, replicate, suc, zero, refl, sym, ◌∙◌, ap, subst, inl, inr, arith}
 use Rattle.std.proofs.lemmas.Nat.{div-add-mod', div-mul-add, le-div}
 use Rattle.std.proofs.Math.Nat.{div-mul-le_self, div-eq_of_lt, mod-eq_of_lt}
 use Rattle.std.proofs.lemmas.List.{take-append-le, take_more, map-append, length-append, length-map, length-take-le, take_all, get_or-set_same, get_or-set_other}
@@ -11,8 +10,8 @@ use Rattle.std.proofs.lemmas.List.Sums.{length-filter, sum_by_more, sum_by-take-
 use Rattle.base16.specs.declared.reading.Reading.{Reading}
 use Rattle.base16.specs.declared.reading.Reading.TheVariants.{Sense, Clock}
 use Rattle.world.specs.Plan.{Plan, IsPlan, ticks_of, off_of}
-use Rattle.world.specs.World.{WorldState, IsLawful, Spends, Gives, Wakes}
-use Rattle.world.specs.TraceWorld.{values_of, value_at, is_of, given_of, next_value, AreNext, clock_at, AreClocks, Follows, world_of, Kept}
+use Rattle.world.specs.World.{IsLawful, Wakes}
+use Rattle.world.specs.TraceWorld.{is_of, given_of, next_value, AreNext, clock_at, AreClocks, Follows, world_of, Kept}
 use Rattle.world.specs.declared.cycle.PowerCycle.{PowerCycle}
 
 -- one more than a number: the quotient is the same, or one more where the remainder was the last
@@ -62,7 +61,7 @@ given_other : (q channel value : ℕ) → q ≢ channel → given_of q (Sense ch
 given_other q channel value h = grind (arith, nat_tests)
 
 taken_push : (k : List ℕ) (rs : List Reading) (channel value : ℕ) → channel < length k → ((q : ℕ) → q < 16 → get_or k q 0 ≡ given_of q rs)
-  → (q : ℕ) → q < 16 → (q ≡ channel) ⊎ (q ≢ channel) → get_or (set k channel (get_or k channel 0 + 1)) q 0 ≡ given_of q (rs ++ Sense channel value ∷ [])
+    → (q : ℕ) → q < 16 → (q ≡ channel) ⊎ (q ≢ channel) → get_or (set k channel (get_or k channel 0 + 1)) q 0 ≡ given_of q (rs ++ Sense channel value ∷ [])
 taken_push k rs channel value within h q small (inl e) =
     let here : get_or (set k channel (get_or k channel 0 + 1)) q 0 ≡ get_or k channel 0 + 1 = subst (λ (n : ℕ). get_or (set k channel (get_or k channel 0 + 1)) n 0 ≡ get_or k channel 0 + 1) (sym e) (get_or-set_same k channel (get_or k channel 0 + 1) 0 within) in
     let one : given_of q (Sense channel value ∷ []) ≡ 1 = subst (λ (n : ℕ). given_of q (Sense n value ∷ []) ≡ 1) e (given_same q value) in
@@ -81,38 +80,38 @@ given_clock q rs ms = omega (arith, given_push q rs (Clock ms))
 next_push : (p : Plan) (rs : List Reading) (channel value : ℕ) → value ≡ next_value p rs channel → AreNext p rs → AreNext p (rs ++ Sense channel value ∷ [])
 next_push p rs channel value is h i ch v at =
     elim (get_push rs (Sense channel value) (Sense ch v) i at) [
-      inl q ↦ h i ch v q.1 ∙ ap (λ (zs : List Reading). next_value p zs ch) (sym (take_before rs (Sense channel value) i (omega (arith, q.0))))
-    | inr q ↦
-        let same : channel ≡ ch = (let e = q.1 in cc) in
-        let equal : v ≡ value = (let e = q.1 in cc) in
-        let all : take i (rs ++ Sense channel value ∷ []) ≡ rs = take_before rs (Sense channel value) i (omega (arith, q.0)) ∙ take_all i rs (omega (arith, q.0)) in
-        equal ∙ is ∙ ap (λ (n : ℕ). next_value p rs n) same ∙ ap (λ (zs : List Reading). next_value p zs ch) (sym all)
+      | inl q ↦ h i ch v q.1 ∙ ap (λ (zs : List Reading). next_value p zs ch) (sym (take_before rs (Sense channel value) i (omega (arith, q.0))))
+      | inr q ↦
+          let same : channel ≡ ch = (let e = q.1 in cc) in
+          let equal : v ≡ value = (let e = q.1 in cc) in
+          let all : take i (rs ++ Sense channel value ∷ []) ≡ rs = take_before rs (Sense channel value) i (omega (arith, q.0)) ∙ take_all i rs (omega (arith, q.0)) in
+          equal ∙ is ∙ ap (λ (n : ℕ). next_value p rs n) same ∙ ap (λ (zs : List Reading). next_value p zs ch) (sym all)
     ]
 
 next_clock : (p : Plan) (rs : List Reading) (ms : ℕ) → AreNext p rs → AreNext p (rs ++ Clock ms ∷ [])
 next_clock p rs ms h i ch v at =
     elim (get_push rs (Clock ms) (Sense ch v) i at) [
-      inl q ↦ h i ch v q.1 ∙ ap (λ (zs : List Reading). next_value p zs ch) (sym (take_before rs (Clock ms) i (omega (arith, q.0))))
-    | inr q ↦ absurd (let e = q.1 in cc)
+      | inl q ↦ h i ch v q.1 ∙ ap (λ (zs : List Reading). next_value p zs ch) (sym (take_before rs (Clock ms) i (omega (arith, q.0))))
+      | inr q ↦ absurd (let e = q.1 in cc)
     ]
 
 -- a clock reading more
 clocks_sense : (p : Plan) (b s : ℕ) (rs : List Reading) (ts : List ℕ) (channel value : ℕ) → length ts ≡ length rs → AreClocks p b rs ts → AreClocks p b (rs ++ Sense channel value ∷ []) (ts ++ s ∷ [])
 clocks_sense p b s rs ts channel value long h i ms t at then =
     elim (get_push rs (Sense channel value) (Clock ms) i at) [
-      inl q ↦ elim (get_push ts s t i then) [ inl r ↦ h i ms t q.1 r.1 | inr r ↦ absurd (omega (arith, q.0, r.0, long)) ]
-    | inr q ↦ absurd (let e = q.1 in cc)
+      | inl q ↦ elim (get_push ts s t i then) [ inl r ↦ h i ms t q.1 r.1 | inr r ↦ absurd (omega (arith, q.0, r.0, long)) ]
+      | inr q ↦ absurd (let e = q.1 in cc)
     ]
 
 clocks_now : (p : Plan) (b s c : ℕ) (rs : List Reading) (ts : List ℕ) → length ts ≡ length rs → c ≡ clock_at p s b → AreClocks p b rs ts → AreClocks p b (rs ++ Clock c ∷ []) (ts ++ s ∷ [])
 clocks_now p b s c rs ts long is h i ms t at then =
     elim (get_push rs (Clock c) (Clock ms) i at) [
-      inl q ↦ elim (get_push ts s t i then) [ inl r ↦ h i ms t q.1 r.1 | inr r ↦ absurd (omega (arith, q.0, r.0, long)) ]
-    | inr q ↦ elim (get_push ts s t i then) [
-        inl r ↦ absurd (omega (arith, q.0, r.0, long))
-      | inr r ↦
-          let same : c ≡ ms = (let e = q.1 in cc) in
-          (b, omega arith, sym same ∙ is ∙ ap (λ (n : ℕ). clock_at p n b) r.1)
+      | inl q ↦ elim (get_push ts s t i then) [ inl r ↦ h i ms t q.1 r.1 | inr r ↦ absurd (omega (arith, q.0, r.0, long)) ]
+      | inr q ↦ elim (get_push ts s t i then) [
+        | inl r ↦ absurd (omega (arith, q.0, r.0, long))
+        | inr r ↦
+            let same : c ≡ ms = (let e = q.1 in cc) in
+            (b, omega arith, sym same ∙ is ∙ ap (λ (n : ℕ). clock_at p n b) r.1)
       ]
     ]
 
@@ -128,7 +127,7 @@ kept_new p h = record {
   taken = λ channel small. zeros 16 channel;
   senses = λ i channel value at. cc;
   clocks = λ i ms spent at then. cc;
-  }
+}
 
 pub kept_tick : (p : Plan) (b s l c u : ℕ) (k : List ℕ) (rs : List Reading) (ts : List ℕ) → 0 < l → 1 < u → Kept p b s l c u k rs ts → Kept p b (s + 1) (l - 1) c (u - 1) k rs ts
 kept_tick p b s l c u k rs ts pos more h =
@@ -164,7 +163,7 @@ kept_turn p b s l c u r k rs ts pos low is h =
     }
 
 pub kept_sense : (p : Plan) (b s l c u channel value : ℕ) (k : List ℕ) (rs : List Reading) (ts : List ℕ) → channel < 16 → channel < length k → length rs < s → value ≡ next_value p rs channel
-  → Kept p b s l c u k rs ts → Kept p b s l c u (set k channel (get_or k channel 0 + 1)) (rs ++ Sense channel value ∷ []) (ts ++ s ∷ [])
+    → Kept p b s l c u k rs ts → Kept p b s l c u (set k channel (get_or k channel 0 + 1)) (rs ++ Sense channel value ∷ []) (ts ++ s ∷ [])
 kept_sense p b s l c u channel value k rs ts small within room is h = record {
   plan = h.plan;
   begun = h.begun;
@@ -176,10 +175,10 @@ kept_sense p b s l c u channel value k rs ts small within room is h = record {
   taken = λ q below. taken_push k rs channel value within h.taken q below (same_or_not q channel);
   senses = next_push p rs channel value is h.senses;
   clocks = clocks_sense p b s rs ts channel value h.timed h.clocks;
-  }
+}
 
 pub kept_now : (p : Plan) (b s l c u : ℕ) (k : List ℕ) (rs : List Reading) (ts : List ℕ) → length rs < s
-  → Kept p b s l c u k rs ts → Kept p b s l c u k (rs ++ Clock c ∷ []) (ts ++ s ∷ [])
+    → Kept p b s l c u k rs ts → Kept p b s l c u k (rs ++ Clock c ∷ []) (ts ++ s ∷ [])
 kept_now p b s l c u k rs ts room h = record {
   plan = h.plan;
   begun = h.begun;
@@ -191,10 +190,10 @@ kept_now p b s l c u k rs ts room h = record {
   taken = λ q below. h.taken q below ∙ given_clock q rs c;
   senses = next_clock p rs c h.senses;
   clocks = clocks_now p b s c rs ts h.timed h.clock h.clocks;
-  }
+}
 
 pub kept_wake : (p : Plan) (b s l c u off : ℕ) (cycle : PowerCycle) (k : List ℕ) (rs : List Reading) (ts : List ℕ) → slice_get p.cycles b ≡ Some cycle → off_of (take b p.cycles) ≡ off_of (take (b - 1) p.cycles) + off
-  → Kept p b s l c u k rs ts → Kept p (b + 1) s cycle.ticks (c + off) u k rs ts
+    → Kept p b s l c u k rs ts → Kept p (b + 1) s cycle.ticks (c + off) u k rs ts
 kept_wake p b s l c u off cycle k rs ts at is h =
     let within : b < length p.cycles = slice_get_within p.cycles b cycle at in
     let last : get_or p.cycles b cycle ≡ cycle = get_or_from_slice_get p.cycles b cycle cycle at in
@@ -242,7 +241,7 @@ kept_follows p b s l c u k rs ts h =
 
 -- the clock after one off time more is below 2^31
 pub clock_after : (p : Plan) (b s l c u off : ℕ) (k : List ℕ) (rs : List Reading) (ts : List ℕ) → b ≤ length p.cycles → off_of (take b p.cycles) ≡ off_of (take (b - 1) p.cycles) + off
-  → Kept p b s l c u k rs ts → c + off < 2 ^ 31
+    → Kept p b s l c u k rs ts → c + off < 2 ^ 31
 clock_after p b s l c u off k rs ts within is h =
     let total : ticks_of (take b p.cycles) ≤ ticks_of p.cycles = sum_by-take-le (λ (x : PowerCycle). x.ticks) p.cycles b in
     let all : off_of (take b p.cycles) ≤ off_of p.cycles = sum_by-take-le (λ (x : PowerCycle). x.off) p.cycles b in

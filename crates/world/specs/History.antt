@@ -66,5 +66,5 @@ shown first records j = fold (λ d sets. fold changed d sets) first (take j (fla
 
 -- A reading that is lost by a power failure is not committed, and is taken again.
 lost_and_taken_again : (k : Reading) (a b : ℕ) (sets : List Shown) →
-  committed (On 1 ∷ Read (reading.Sense 0 a) ∷ Off ∷ On 2 ∷ Read (reading.Sense 0 b) ∷ Commit 1 1 9 32772 8448 155 0 sets ∷ Read k ∷ []) 1 ≡ reading.Sense 0 b ∷ []
+    committed (On 1 ∷ Read (reading.Sense 0 a) ∷ Off ∷ On 2 ∷ Read (reading.Sense 0 b) ∷ Commit 1 1 9 32772 8448 155 0 sets ∷ Read k ∷ []) 1 ≡ reading.Sense 0 b ∷ []
 lost_and_taken_again k a b sets = refl

@@ -1,5 +1,5 @@
 -- The text of a readings file: what each line says, and what all lines say.
-use Rattle.std.specs.Prelude.{◌≡◌, ℕ, ◌+◌, ◌<◌, ◌^◌, ◌&&◌, ⊤, Bool, true, List, [], ◌∷◌, ◌++◌, Option, Some, None, Result, Ok, Err, codes, length, nat_le, if◌then◌else◌}
+use Rattle.std.specs.Prelude.{◌≡◌, ℕ, ◌+◌, ◌<◌, ◌^◌, ◌&&◌, Bool, List, [], ◌∷◌, ◌++◌, Option, Some, None, Result, Ok, Err, codes, length, nat_le, if◌then◌else◌}
 use Rattle.std.specs.Option.{option_map, option_and_then}
 use Rattle.std.specs.Str.{bytes_eq}
 use Rattle.std.specs.Str.Lines.{lines}
@@ -31,9 +31,9 @@ clock_of (ms ∷ more ∷ args) = None
 unfoldable pub reading_of : List (List ℕ) → Option Reading
 reading_of [] = None
 reading_of (word ∷ args) =
-  if bytes_eq word (codes "sense") then sensed_of args
-  else if bytes_eq word (codes "clock") then clock_of args
-  else None
+    if bytes_eq word (codes "sense") then sensed_of args
+    else if bytes_eq word (codes "clock") then clock_of args
+    else None
 
 -- the ranges of a reading
 abbrev pub IsInRange : Reading → Type 0
@@ -47,7 +47,7 @@ with_reading d (Clock ms) = if nat_le d.clock ms then Some (record { readings = 
 
 unfoldable pub with_reading_line : ReadingsDraft → List ℕ → Option ReadingsDraft
 with_reading_line d line =
-  if is_skipped line then Some d else if is_padded line then None else option_and_then (with_reading d) (reading_of (fields line))
+    if is_skipped line then Some d else if is_padded line then None else option_and_then (with_reading d) (reading_of (fields line))
 
 -- what the lines from number n on say after d, or the first bad one
 abbrev pub or_bad_line : ℕ → (ReadingsDraft → Result ReadingsDraft TraceErr) → Option ReadingsDraft → Result ReadingsDraft TraceErr

@@ -1,5 +1,5 @@
 -- A refusal names its cause; want of memory alone is free.
-use Rattle.std.specs.Prelude.{◌≡◌, ℕ, Result, Err}
+use Rattle.std.specs.Prelude.{◌≡◌, Result, Err}
 use Rattle.world.specs.declared.error.TraceErr.{TraceErr}
 use Rattle.world.specs.declared.error.TraceErr.TheVariants.{BadLine, TooLong, NoMemory}
 

@@ -2,6 +2,11 @@
 -- carriage return just before it is dropped, and the last line may lack its end.
 use Rattle.std.specs.Prelude.{ℕ, ◌+◌, ◌-◌, ◌*◌, ◌==◌, ◌&&◌, ◌||◌, Bool, true, List, [], ◌∷◌, Option, Some, None, length, filter, fold, not, nat_lt, nat_le, slice_index, if◌then◌else◌}
 use Rattle.std.specs.List.{slice_split, list_all}
+use Rattle.std.specs.Str.Lines.{lines, lines_of_parts}
+use Rattle.std.proofs.Common.{◌≤◌, arith}
+use Rattle.std.proofs.lemmas.Bool.Decides.{nat_tests}
+use Rattle.std.proofs.lemmas.List.Splits.{length-slice_split}
+use Rattle.std.proofs.lemmas.List.Sums.{count_by-le-length}
 use Rattle.std.specs.Char.{is_ascii_digit}
 
 abbrev pub is_space : ℕ → Bool
@@ -31,3 +36,13 @@ is_number field = nat_lt 0 (length field) && nat_le (length field) 10 && list_al
 -- the number that a field says, where it is one and lies in a range
 unfoldable pub number_in : ℕ → ℕ → List ℕ → Option ℕ
 number_in least most field = if is_number field && nat_le least (decimal field) && nat_le (decimal field) most then Some (decimal field) else None
+
+-- A text has no more lines than line feeds and one, so a text of n bytes has at most n + 1.
+length-lines_of_parts : (parts : List (List ℕ)) → length (lines_of_parts parts) ≤ length parts
+length-lines_of_parts [] = omega arith
+length-lines_of_parts (x ∷ []) = grind (arith, nat_tests)
+length-lines_of_parts (x ∷ y ∷ parts) = omega (arith, length-lines_of_parts (y ∷ parts))
+
+pub length-lines : (text : List ℕ) → length (lines text) ≤ length text + 1
+length-lines text =
+    omega (arith, length-lines_of_parts (slice_split (λ b. b == 10) text), length-slice_split (λ b. b == 10) text, count_by-le-length (λ b. b == 10) text)

@@ -1,5 +1,5 @@
 -- The text of a trace: what each line says, and what all lines say.
-use Rattle.std.specs.Prelude.{ℕ, ⊤, IfSome, ◌<◌, ◌+◌, ◌-◌, ◌*◌, ◌/◌, ◌^◌, ◌==◌, ◌&&◌, Bool, true, false, List, [], ◌∷◌, ◌++◌, Option, Some, None, Result, Ok, Err, codes, length, flat_map, replicate, sum_by, unwrap_or, is_some, nat_lt, nat_le, zero, suc, if◌then◌else◌}
+use Rattle.std.specs.Prelude.{ℕ, ⊤, IfSome, ◌<◌, ◌+◌, ◌*◌, ◌/◌, ◌^◌, ◌==◌, ◌&&◌, Bool, true, false, List, [], ◌∷◌, ◌++◌, Option, Some, None, Result, Ok, Err, codes, length, flat_map, replicate, sum_by, unwrap_or, is_some, nat_lt, nat_le, zero, suc, if◌then◌else◌}
 use Rattle.std.specs.Option.{option_map, option_and_then}
 use Rattle.std.specs.Str.{bytes_eq}
 use Rattle.std.specs.Str.Lines.{lines}
@@ -49,7 +49,7 @@ sense_of (channel ∷ value ∷ args) = option_and_then (sense_with (value ∷ a
 -- `cycle TICKS OFF [COUNT]`, equal power cycles
 abbrev pub cycle_with : Option ℕ → Option ℕ → Option ℕ → Option Entry
 cycle_with ticks off count =
-  option_and_then (λ t. option_and_then (λ o. option_map (λ c. entries.Cycle (record { ticks = t; off = o; count = c })) count) off) ticks
+    option_and_then (λ t. option_and_then (λ o. option_map (λ c. entries.Cycle (record { ticks = t; off = o; count = c })) count) off) ticks
 
 abbrev pub cycle_of : List (List ℕ) → Option Entry
 cycle_of [] = None
@@ -62,12 +62,12 @@ cycle_of (ticks ∷ off ∷ count ∷ more ∷ args) = None
 unfoldable pub entry_of : List (List ℕ) → Option Entry
 entry_of [] = None
 entry_of (word ∷ args) =
-  if bytes_eq word (codes "start") then start_of args
-  else if bytes_eq word (codes "rate") then rate_of args
-  else if bytes_eq word (codes "period") then period_of args
-  else if bytes_eq word (codes "sense") then sense_of args
-  else if bytes_eq word (codes "cycle") then cycle_of args
-  else None
+    if bytes_eq word (codes "start") then start_of args
+    else if bytes_eq word (codes "rate") then rate_of args
+    else if bytes_eq word (codes "period") then period_of args
+    else if bytes_eq word (codes "sense") then sense_of args
+    else if bytes_eq word (codes "cycle") then cycle_of args
+    else None
 
 -- a millisecond has at least one tick
 abbrev pub IsRated : Entry → Type 0
@@ -107,8 +107,8 @@ is_first (word ∷ version ∷ more ∷ args) = false
 
 unfoldable pub with_fields : Draft → List (List ℕ) → Option Draft
 with_fields d args =
-  if d.begun then option_and_then (with_entry d) (entry_of args)
-  else if is_first args then Some (record d { begun = true }) else None
+    if d.begun then option_and_then (with_entry d) (entry_of args)
+    else if is_first args then Some (record d { begun = true }) else None
 
 unfoldable pub with_line : Draft → List ℕ → Option Draft
 with_line d line = if is_skipped line then Some d else if is_padded line then None else with_fields d (fields line)
@@ -151,7 +151,7 @@ last_clock d = start_clock d + all_ticks d / ticks_in_ms d + all_off d
 -- no total is passed
 abbrev pub is_within : Draft → Bool
 is_within d =
-  nat_le (all_cycles d) 10000 && nat_le (all_ticks d) 4000000 && nat_le (all_values d) 65536 && nat_lt (last_clock d) (2 ^ 31)
+    nat_le (all_cycles d) 10000 && nat_le (all_ticks d) 4000000 && nat_le (all_values d) 65536 && nat_lt (last_clock d) (2 ^ 31)
 
 -- the values of a channel, those of all its lines one after another
 abbrev pub channel_of : List SenseLine → ℕ → List ℕ
@@ -174,8 +174,8 @@ plan_of d = record {
   rate = ticks_in_ms d;
   period = unwrap_or d.period 1000;
   channels = channels_below 16 d.senses;
-  cycles = cycles_of d.cycles
-  }
+  cycles = cycles_of d.cycles;
+}
 
 abbrev pub plan_within : Bool → Draft → Result Plan TraceErr
 plan_within short d = if short && is_within d then Ok (plan_of d) else Err TooLong

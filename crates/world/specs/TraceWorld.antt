@@ -37,7 +37,7 @@ clock_at p spent begun = p.start + spent / p.rate + off_of (take (begun - 1) p.c
 -- Each clock reading is the clock at its tick, in one of the power cycles that have begun.
 abbrev pub AreClocks : Plan → ℕ → List Reading → List ℕ → Type 0
 AreClocks p begun readings times =
-  (i ms spent : ℕ) → slice_get readings i ≡ Some (Clock ms) → slice_get times i ≡ Some spent → (cycle : ℕ) × (cycle ≤ begun) × (ms ≡ clock_at p spent cycle)
+    (i ms spent : ℕ) → slice_get readings i ≡ Some (Clock ms) → slice_get times i ≡ Some spent → (cycle : ℕ) × (cycle ≤ begun) × (ms ≡ clock_at p spent cycle)
 
 -- The state is one of the outside that its plan stands for.
 pub record Follows (s : WorldState) : Type 0 where
@@ -53,9 +53,16 @@ pub record Follows (s : WorldState) : Type 0 where
 -- the state after so many power cycles have begun
 abbrev pub world_of : Plan → ℕ → ℕ → ℕ → ℕ → List Reading → List ℕ → WorldState
 world_of p begun spent left clock readings times = record {
-  plan = p; spent = spent; left = left; clock = clock; period = p.period; cycles = length p.cycles - begun;
-  readings = readings; times = times; spans = map (λ c. c.ticks) (take begun p.cycles)
-  }
+  plan = p;
+  spent = spent;
+  left = left;
+  clock = clock;
+  period = p.period;
+  cycles = length p.cycles - begun;
+  readings = readings;
+  times = times;
+  spans = map (λ c. c.ticks) (take begun p.cycles);
+}
 
 -- what the world that plays a trace keeps: ticks until the next millisecond, and how many values each channel gave
 pub record Kept (p : Plan) (b s l c u : ℕ) (k : List ℕ) (rs : List Reading) (ts : List ℕ) : Type 0 where

@@ -101,7 +101,10 @@ impl Draft {
         let ticks = capped_ticks(self.cycles.as_slice());
         let off = capped_off(self.cycles.as_slice());
         let values = capped_values(self.senses.as_slice());
-        if cycles > u64::from(MOST_CYCLES) || ticks > u64::from(MOST_TICKS) || values > MOST_VALUES {
+        if cycles > u64::from(MOST_CYCLES)
+            || ticks > u64::from(MOST_TICKS)
+            || values > MOST_VALUES
+        {
             return false;
         }
         let clock = u64::from(self.start_clock()) + ticks / u64::from(self.ticks_in_ms());

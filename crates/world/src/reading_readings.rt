@@ -22,7 +22,10 @@ fn sensed(args: &[&[u8]]) -> Option<Reading>
 {
     match args {
         [channel, value] => {
-            match (number_within(0, 15, channel), number_within(0, 65535, value)) {
+            match (
+                number_within(0, 15, channel),
+                number_within(0, 65535, value),
+            ) {
                 (Some(channel), Some(value)) => Some(Reading::Sense {
                     channel: channel as u8,
                     value: value as u16,

@@ -1,4 +1,4 @@
-use Rattle.std.proofs.Common.{◌≡◌, ◌*◌, ◌^◌, ◌-◌, min, take, length, sum_by}
+use Rattle.std.proofs.Common.{◌≡◌, ◌^◌, ◌-◌, min, take, length, sum_by}
 use Rattle.world.proofs.draft.capped_values.Given as goal
 
 abbrev pub invariant-loop-line : goal.invariant-loop-line

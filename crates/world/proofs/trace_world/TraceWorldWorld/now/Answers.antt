@@ -6,6 +6,8 @@ use Rattle.world.proofs.trace_world.TraceWorldWorld.now.Goals as goal
 pub invariant_of-self : goal.invariant_of-self
 invariant_of-self c =
     let w = c.self.inside in
-    let room : length w.readings.items < w.spent = subst (λ (v : WorldState). length v.readings < v.spent) (sym c.self.view_is) c.requires in
-    (rw (c.push_within.ensures.items, c.push_within-2.ensures.items) (kept_now w.trace w.begun w.spent w.left w.clock w.until w.taken w.readings.items w.times.items room c.self.invariant.0),
-     omega (arith, c.self.invariant.1, c.push_within.ensures.capacity), omega (arith, c.self.invariant.2, c.push_within-2.ensures.capacity))
+    let room : length w.readings.items < w.spent = subst (λ (v : WorldState). length v.readings < v.spent) (sym c.self.view_is) c.requires in (
+      rw (c.push_within.ensures.items, c.push_within-2.ensures.items) (kept_now w.trace w.begun w.spent w.left w.clock w.until w.taken w.readings.items w.times.items room c.self.invariant.0),
+      omega (arith, c.self.invariant.1, c.push_within.ensures.capacity),
+      omega (arith, c.self.invariant.2, c.push_within-2.ensures.capacity),
+    )

@@ -13,4 +13,4 @@ pub returns-clause-woken : goal.returns-clause-woken
 returns-clause-woken c =
     let w = c.self.inside in
     subst (λ (v : WorldState). Wakes v (world_of w.trace (w.begun + 1) w.spent c.cycle.result.ticks (w.clock + c.off_behind.result) w.readings.items w.times.items)) c.self.view_is
-      (wakes w.trace w.begun w.spent w.left w.clock c.off_behind.result c.cycle.result w.readings.items w.times.items c.cycle.ensures)
+    (wakes w.trace w.begun w.spent w.left w.clock c.off_behind.result c.cycle.result w.readings.items w.times.items c.cycle.ensures)
