@@ -74,6 +74,7 @@ impl Fram {
     pub fn write<W: World>(&mut self, world: &mut W, address: u16, word: u16) -> Result<(), Off>
         requires { address % 2 ≡ 0 }
         ensures written { OnOk result (self.new.words ≡ slice_set self.old.words (address / 2) word) }
+        ensures memory { OnOk result (words_of self.new.words ≡ put (words_of self.old.words) address word) }
         ensures tick { OnOk result (Spends 1 (W.state world.old) (W.state world.new)) }
         ensures off { OnErr result ((W.state world.old).left ≡ 0) }
         ensures kept { OnErr result (self.new.words ≡ self.old.words) }
