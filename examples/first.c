@@ -1,0 +1,5 @@
+int g;
+int main(void) {
+  g = 5;
+  return 0;
+}
