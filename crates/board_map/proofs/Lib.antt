@@ -1,2 +1,0 @@
-pub mod WriteKinds
-pub mod Writes

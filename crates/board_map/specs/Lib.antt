@@ -1,4 +1,0 @@
-pub mod Map
-pub mod Recovered
-pub mod WellFormed
-pub mod Costs
