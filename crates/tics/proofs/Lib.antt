@@ -1,4 +1,4 @@
-pub mod Tests
+pub mod BoolLaws
 pub mod ScanLaws
 pub mod ScanTurns
 pub mod NumberLaws

@@ -7,7 +7,7 @@ use Rattle.std.specs.Prelude.{nat_le, slice_index}
 use Rattle.std.specs.Fmt.{decimal}
 use Rattle.std.specs.Str.{all_ascii_digits}
 use Rattle.tics.specs.Reading.{is_number, read_on}
-use Rattle.tics.proofs.Tests.{and_parts, and_made, or_left}
+use Rattle.tics.proofs.BoolLaws.{and_parts, and_made, or_left}
 
 own : IsNumeralModel (λ ds. all_ascii_digits ds ≡ true) (read_on 0)
 own = numerals_by_fold (λ ds. all_ascii_digits ds ≡ true) tells_all_ascii_digits read_on (search rules)

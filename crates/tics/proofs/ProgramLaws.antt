@@ -13,7 +13,7 @@ use Rattle.tics.specs.declared.source.Store.{Store}
 use Rattle.tics.specs.Words.{is_name, is_identifier, is_reserved, is_word_byte, is_letter}
 use Rattle.tics.specs.Form.{declaration, statement, heading, ending, tokens_of, are_distinct, is_store_to, IsProgram, IsOfForm}
 use Rattle.tics.specs.Reading.{declared, stored, is_stored, after, is_number, read_on, is_program, checked, body, program_of, program_of_all, program_in, scan}
-use Rattle.tics.proofs.Tests.{and_parts, and_made, or_left, or_parts, list_all-append}
+use Rattle.tics.proofs.BoolLaws.{and_parts, and_made, or_left, or_parts, list_all-append}
 use Rattle.tics.proofs.NumberLaws.{decimal_is, value_is, is_number-decimal, number_digits}
 use Rattle.tics.proofs.ScanLaws.{is_token, scan_sound, scan_again}
 

@@ -6,7 +6,7 @@ use Rattle.std.specs.Prelude.{if◌then◌else◌}
 use Rattle.tics.specs.Words.{is_blank, is_word_byte, is_mark}
 use Rattle.tics.specs.Layout.{Lays, done, blank, token, goes_on}
 use Rattle.tics.specs.Reading.{prepend, flushed, scan}
-use Rattle.tics.proofs.Tests.{and_false, and_parts, and_made, or_parts, excluded, list_all-append}
+use Rattle.tics.proofs.BoolLaws.{and_false, and_parts, and_made, or_parts, excluded, list_all-append}
 
 pub prepend-prepend : {A : Type 0} (xs ys : List A) (r : Option (List A)) → prepend xs (prepend ys r) ≡ prepend (xs ++ ys) r
 prepend-prepend xs ys None = refl

@@ -5,7 +5,7 @@ use Rattle.std.specs.Prelude.{if◌then◌else◌, nat_le, codes}
 use Rattle.std.specs.Str.{bytes_eq}
 use Rattle.tics.specs.declared.source.Store.{Store}
 use Rattle.tics.specs.Reading.{declared, begins_declaration, stored, is_stored, begins_store, is_number, read_on, after}
-use Rattle.tics.proofs.Tests.{and_parts}
+use Rattle.tics.proofs.BoolLaws.{and_parts}
 
 declared_by : (type name end : List ℕ) (tokens : List (List ℕ)) (b : Bool) → (bytes_eq type (codes "int") && bytes_eq end (codes ";")) ≡ b
     → declared (type ∷ name ∷ end ∷ tokens) ≡ (if b then (name ∷ (declared tokens).0, (declared tokens).1) else ([], type ∷ name ∷ end ∷ tokens))
