@@ -1,0 +1,10 @@
+pub mod Words
+pub mod Placing
+pub mod Rules
+pub mod Stack
+pub mod Operands
+pub mod Compose
+pub mod FlagLemmas
+pub mod Kept
+pub mod Bytes
+pub mod Stopping

@@ -1,0 +1,4 @@
+pub mod Run
+pub mod Code
+pub mod Routine
+pub mod Kept

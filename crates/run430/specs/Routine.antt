@@ -1,0 +1,59 @@
+-- Stretches of a run, and what a routine does that is called with arguments in R12 and R13 and answers in R12.
+use Rattle.std.specs.Prelude.{◌≡◌, ◌⊎◌, ◌<◌, ◌≤◌, ℕ, ◌+◌, ◌*◌, ◌%◌, Bool, false, List, length}
+use Rattle.isa430.specs.Table.{WordsAt}
+use Rattle.core430.specs.Instructions.{lowered}
+use Rattle.core430.specs.Step.{State, arrive, step}
+use Rattle.run430.specs.Run.{Runs, Touches}
+
+-- at most so many steps lead to a state that is such
+pub record Goes (denied : ℕ → Bool) (R W : ℕ → Type 0) (limit : ℕ) (s : State) (Q : State → Type 0) : Type 0 where
+  pub steps : ℕ
+  pub within : steps ≤ limit
+  pub end : State
+  pub runs : Runs denied R W steps s end
+  pub so : Q end
+
+-- a call of the routine whose words stand at base, in the code range, with x in R12 and y in R13. The return word and
+-- the word below it may be written and lie outside the routine's words
+pub record IsCall (denied : ℕ → Bool) (ws : List ℕ) (base x y : ℕ) (s : State) : Type 0 where
+  pub words : WordsAt s.memory base ws
+  pub place : s.regs 0 ≡ base
+  pub base_even : base % 2 ≡ 0
+  pub base_low : 32768 ≤ base
+  pub base_high : base + 2 * length ws ≤ 61440
+  pub stack_word : s.regs 1 < 65536
+  pub stack_even : s.regs 1 % 2 ≡ 0
+  pub stack_apart : (s.regs 1 < base) ⊎ (base + 2 * length ws ≤ s.regs 1)
+  pub below_apart : (lowered (s.regs 1) < base) ⊎ (base + 2 * length ws ≤ lowered (s.regs 1))
+  pub stack_may : denied (s.regs 1) ≡ false
+  pub below_may : denied (lowered (s.regs 1)) ≡ false
+  pub first : s.regs 12 ≡ x
+  pub first_word : x < 65536
+  pub second : s.regs 13 ≡ y
+  pub second_word : y < 65536
+
+-- the words that a routine may read: its own, its return word and the word below that
+abbrev pub RoutineReads : ℕ → ℕ → ℕ → ℕ → Type 0
+RoutineReads base size sp a = ((base ≤ a) × (a < base + size)) ⊎ ((a ≡ sp) ⊎ (a ≡ lowered sp))
+
+-- the word below its return word is all that it may write
+abbrev pub RoutineWrites : ℕ → ℕ → Type 0
+RoutineWrites sp a = a ≡ lowered sp
+
+-- R4 to R7 are as they were
+abbrev pub IsKept : (ℕ → ℕ) → (ℕ → ℕ) → Type 0
+IsKept before r = (r 4 ≡ before 4) × (r 5 ≡ before 5) × (r 6 ≡ before 6) × (r 7 ≡ before 7)
+
+-- fewer steps than this, and then one that takes the return word to PC and leaves SP just past it. The answer is in R12, and R4 to R7 are as they were
+pub record ComesBack (denied : ℕ → Bool) (R W : ℕ → Type 0) (limit answer : ℕ) (s : State) : Type 0 where
+  pub steps : ℕ
+  pub within : steps < limit
+  pub last : State
+  pub runs : Runs denied R W steps s last
+  pub end : State
+  pub returns : step denied last ≡ arrive end.regs end.memory
+  pub touches : Touches R W last
+  pub back : end.regs 0 ≡ s.memory (s.regs 1)
+  pub stack : end.regs 1 ≡ (s.regs 1 + 2) % 65536
+  pub answers : end.regs 12 ≡ answer
+  pub kept : IsKept s.regs end.regs
