@@ -1,0 +1,6 @@
+pub mod Stretch
+pub mod Multiply
+pub mod Divide
+pub mod Quotients
+pub mod Shifts
+pub mod ShiftRoutines

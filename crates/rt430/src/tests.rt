@@ -1,0 +1,122 @@
+use super::*;
+use base16::{NoMemory, Regs};
+use core430::{Memory, PlainMemory};
+use run430::run;
+use std::alloc::Global;
+use std::test::Fail;
+
+/// Where the routine stands, its return word and where that leads.
+const START: u16 = 0x8000;
+
+const STACK: u16 = 0x3000;
+
+const BACK: u16 = 0x9000;
+
+/// R12 after a call of these words with two arguments, where it comes back within 400 steps; and 0xdead where not.
+fn answer(alloc: Global, words: &[u16], x: u16, y: u16) -> Result<u16, NoMemory> {
+    let mut memory = PlainMemory::new(alloc)?;
+    let mut address = START;
+    for word in words {
+        let _ = memory.put(address / 2 * 2, *word);
+        address = address.wrapping_add(2);
+    }
+    let _ = memory.put(STACK, BACK);
+    let mut regs = Regs {
+        r: [
+            START, STACK, 0, 0, 4, 5, 6, 7, 0, 0, 0, 0, x, y, 0xffff, 0xffff,
+        ],
+    };
+    for _ in 0..400 {
+        if regs.r[0] != BACK {
+            let _ = run(1, &mut regs, &mut memory);
+        }
+    }
+    let kept = regs.r[4] == 4 && regs.r[5] == 5 && regs.r[6] == 6 && regs.r[7] == 7;
+    let back = regs.r[0] == BACK && regs.r[1] == STACK + 2;
+    Ok(if kept && back { regs.r[12] } else { 0xdead })
+}
+
+/// Factors and product modulo 65536, worked by hand.
+const PRODUCTS: [(u16, u16, u16); 8] = [
+    (0, 0, 0),
+    (1, 65535, 65535),
+    (65535, 65535, 1),
+    (300, 300, 24464),
+    (32767, 2, 65534),
+    (32768, 2, 0),
+    (32769, 3, 32771),
+    (12345, 6789, 55197),
+];
+
+/// Number, divisor, quotient and remainder.
+const QUOTIENTS: [(u16, u16, u16, u16); 10] = [
+    (0, 1, 0, 0),
+    (7, 2, 3, 1),
+    (65535, 1, 65535, 0),
+    (65535, 65535, 1, 0),
+    (65534, 65535, 0, 65534),
+    (32768, 32769, 0, 32768),
+    (65535, 32768, 1, 32767),
+    (65535, 40000, 1, 25535),
+    (50000, 7, 7142, 6),
+    (1000, 10, 100, 0),
+];
+
+/// Value, count, and the value shifted to the left, to the right and to the right as a signed number.
+const SHIFTED: [(u16, u16, u16, u16, u16); 8] = [
+    (1, 15, 32768, 0, 0),
+    (32768, 15, 0, 1, 65535),
+    (65535, 4, 65520, 4095, 65535),
+    (0x1234, 0, 0x1234, 0x1234, 0x1234),
+    (65528, 2, 65504, 16382, 65534),
+    (65529, 1, 65522, 32764, 65532),
+    (32767, 14, 49152, 1, 1),
+    (0xff00, 8, 0, 0xff, 0xffff),
+];
+
+#[test]
+fn products_are_those_worked_by_hand(rt: HostRuntime) -> Result<(), Fail> {
+    for (x, y, product) in PRODUCTS {
+        assert_eq!(rt;
+            answer(rt.alloc(), &multiplication(), x, y)?,
+            product,
+            "{x} * {y}"
+        );
+    }
+    Ok(())
+}
+
+#[test]
+fn quotients_are_those_worked_by_hand(rt: HostRuntime) -> Result<(), Fail> {
+    for (x, y, quotient, rest) in QUOTIENTS {
+        assert_eq!(rt;
+            answer(rt.alloc(), &division(), x, y)?,
+            quotient,
+            "{x} / {y}"
+        );
+        assert_eq!(rt; answer(rt.alloc(), &remainder(), x, y)?, rest, "{x} % {y}");
+    }
+    Ok(())
+}
+
+#[test]
+fn shifts_are_those_worked_by_hand(rt: HostRuntime) -> Result<(), Fail> {
+    for (x, count, left, right, signed_right) in SHIFTED {
+        assert_eq!(rt;
+            answer(rt.alloc(), &left_shift(), x, count)?,
+            left,
+            "{x} << {count}"
+        );
+        assert_eq!(rt;
+            answer(rt.alloc(), &right_shift(), x, count)?,
+            right,
+            "{x} >> {count}"
+        );
+        assert_eq!(rt;
+            answer(rt.alloc(), &signed_right_shift(), x, count)?,
+            signed_right,
+            "{x} >> {count}"
+        );
+    }
+    Ok(())
+}
