@@ -1,0 +1,2 @@
+pub mod WriteKinds
+pub mod Writes

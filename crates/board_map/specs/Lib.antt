@@ -1,0 +1,4 @@
+pub mod Map
+pub mod Recovered
+pub mod WellFormed
+pub mod Costs
