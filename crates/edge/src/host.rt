@@ -19,7 +19,10 @@ pub struct HostFiles<'a, R: HostFileSystem> {
 
 impl<'a, R: HostFileSystem> HostFiles<'a, R> {
     /// The files of this host.
-    pub fn new(rt: &'a R) -> HostFiles<'a, R> {
+    pub fn new(rt: &'a R) -> HostFiles<'a, R>
+        ensures faults { result.faults ≡ 0 }
+        ensures last { result.last ≡ None }
+    {
         HostFiles {
             rt,
             faults: 0,
@@ -109,7 +112,9 @@ pub struct StdSink<'a, P: Print> {
 
 impl<'a, P: Print> StdSink<'a, P> {
     /// The standard output of this process.
-    pub fn new(rt: &'a P) -> StdSink<'a, P> {
+    pub fn new(rt: &'a P) -> StdSink<'a, P>
+        ensures { result.faults ≡ 0 }
+    {
         StdSink { rt, faults: 0 }
     }
 }
