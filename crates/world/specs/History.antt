@@ -1,6 +1,7 @@
 -- What a history says: its attempts, the readings that were committed, and the values that were shown.
 use Rattle.std.specs.Prelude.{◌≡◌, ℕ, ◌==◌, Bool, true, false, List, [], ◌∷◌, ◌++◌, Option, Some, None, filter, flat_map, fold, take, replicate, slice_set, if◌then◌else◌, refl}
 use Rattle.base16.specs.declared.reading.Reading.{Reading}
+use Rattle.base16.specs.declared.end.EndKind.TheVariants.{Done}
 use Rattle.base16.specs.declared.reading.Reading.TheVariants as reading
 use Rattle.world.specs.declared.history.Record.{Record}
 use Rattle.world.specs.declared.history.Record.TheVariants.{On, Read, Commit, Off, End}
@@ -68,3 +69,21 @@ shown first records j = fold (λ d sets. fold changed d sets) first (take j (fla
 lost_and_taken_again : (k : Reading) (a b : ℕ) (sets : List Shown) →
     committed (On 1 ∷ Read (reading.Sense 0 a) ∷ Off ∷ On 2 ∷ Read (reading.Sense 0 b) ∷ Commit 1 1 9 32772 8448 155 0 sets ∷ Read k ∷ []) 1 ≡ reading.Sense 0 b ∷ []
 lost_and_taken_again k a b sets = refl
+
+-- a history with two commits: the second shows another word of scalar 0, one output, and no stamp
+abbrev two_commits : List Record
+two_commits =
+    On 1 ∷ Commit 1 3 9 32772 8448 155 0 (Value 0 5 ∷ Stamp 0 (Some 7) ∷ []) ∷ Off
+    ∷ On 2 ∷ Commit 2 5 12 32772 8448 155 0 (Value 0 6 ∷ Outs 2 ∷ Out 1 40 ∷ []) ∷ End Done ∷ []
+
+-- After the first commit its word is shown.
+first_word_shown : (d : Display) → (shown d two_commits 1).values 0 ≡ 5
+first_word_shown d = refl
+
+-- After the second its word is shown, the stamp is that of the first, and a scalar that no commit names is as before.
+later_word_shown : (d : Display) → ((shown d two_commits 2).values 0 ≡ 6) × ((shown d two_commits 2).stamps 0 ≡ Some 7) × ((shown d two_commits 2).values 3 ≡ d.values 3)
+later_word_shown d = (refl, refl, refl)
+
+-- Outputs that no commit gave are 0.
+outputs_shown : (v : ℕ → ℕ) (t : ℕ → Option ℕ) → (shown (record { values = v; stamps = t; outs = [] }) two_commits 2).outs ≡ 0 ∷ 40 ∷ []
+outputs_shown v t = refl

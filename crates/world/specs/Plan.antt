@@ -22,10 +22,18 @@ ticks_of = sum_by (λ c. c.ticks)
 abbrev pub off_of : List PowerCycle → ℕ
 off_of = sum_by (λ c. c.off)
 
--- the limits of a trace
+-- how many sensor values there are in all channels
+abbrev pub values_in : List (List ℕ) → ℕ
+values_in = sum_by length
+
+-- the ranges and the totals of a trace
 pub record IsPlan (p : Plan) : Type 0 where
   pub rate : 0 < p.rate
+  pub rate_most : p.rate ≤ 4000000
+  pub period : 0 < p.period
+  pub period_most : p.period ≤ 4000000
   pub channels : length p.channels ≡ 16
   pub cycles : length p.cycles ≤ 10000
   pub ticks : ticks_of p.cycles ≤ 4000000
+  pub values : values_in p.channels ≤ 65536
   pub clock : p.start + ticks_of p.cycles / p.rate + off_of p.cycles < 2 ^ 31

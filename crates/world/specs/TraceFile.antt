@@ -1,5 +1,5 @@
 -- The text of a trace: what each line says, and what all lines say.
-use Rattle.std.specs.Prelude.{ℕ, ⊤, IfSome, ◌<◌, ◌+◌, ◌*◌, ◌/◌, ◌^◌, ◌==◌, ◌&&◌, Bool, true, false, List, [], ◌∷◌, ◌++◌, Option, Some, None, Result, Ok, Err, codes, length, flat_map, replicate, sum_by, unwrap_or, is_some, nat_lt, nat_le, zero, suc, if◌then◌else◌}
+use Rattle.std.specs.Prelude.{ℕ, ⊤, IfSome, ◌<◌, ◌≤◌, ◌+◌, ◌*◌, ◌/◌, ◌^◌, ◌==◌, ◌&&◌, Bool, true, false, List, [], ◌∷◌, ◌++◌, Option, Some, None, Result, Ok, Err, codes, length, flat_map, replicate, sum_by, unwrap_or, is_some, nat_lt, nat_le, zero, suc, if◌then◌else◌}
 use Rattle.std.specs.Option.{option_map, option_and_then}
 use Rattle.std.specs.Str.{bytes_eq}
 use Rattle.std.specs.Str.Lines.{lines}
@@ -69,16 +69,20 @@ entry_of (word ∷ args) =
     else if bytes_eq word (codes "cycle") then cycle_of args
     else None
 
--- a millisecond has at least one tick
-abbrev pub IsRated : Entry → Type 0
-IsRated (entries.Start ms) = ⊤
-IsRated (entries.Rate ticks) = 0 < ticks
-IsRated (entries.Period ticks) = ⊤
-IsRated (entries.Sense line) = ⊤
-IsRated (entries.Cycle line) = ⊤
+-- a rate or a period: 1 to 4,000,000 ticks
+abbrev pub IsTicks : ℕ → Type 0
+IsTicks ticks = (0 < ticks) × (ticks ≤ 4000000)
 
-abbrev pub HasRate : Draft → Type 0
-HasRate d = IfSome d.rate (λ ticks. 0 < ticks)
+abbrev pub IsRanged : Entry → Type 0
+IsRanged (entries.Start ms) = ⊤
+IsRanged (entries.Rate ticks) = IsTicks ticks
+IsRanged (entries.Period ticks) = IsTicks ticks
+IsRanged (entries.Sense line) = ⊤
+IsRanged (entries.Cycle line) = ⊤
+
+-- the rate and the period, where they were said, are in their ranges
+abbrev pub HasRanges : Draft → Type 0
+HasRanges d = IfSome d.rate IsTicks × IfSome d.period IsTicks
 
 -- What the lines of a trace have said so far; `begun` where its first line came.
 abbrev pub with_start : Draft → ℕ → Option Draft

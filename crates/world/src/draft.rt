@@ -74,7 +74,7 @@ fn capped_values(lines: &[SenseLine]) -> u64
 }
 
 impl Draft {
-    ghost use Rattle.world.specs.TraceFile.{start_clock, ticks_in_ms, is_within, HasRate};
+    ghost use Rattle.world.specs.TraceFile.{start_clock, ticks_in_ms, is_within, HasRanges};
 
     /// The clock at the beginning in milliseconds.
     pub fn start_clock(&self) -> u32
@@ -85,7 +85,7 @@ impl Draft {
 
     /// The ticks in a millisecond.
     pub fn ticks_in_ms(&self) -> u32
-        requires { HasRate self.now }
+        requires { HasRanges self.now }
         ensures value { result ≡ ticks_in_ms self.now }
         ensures positive { 0 < result }
     {
@@ -94,7 +94,7 @@ impl Draft {
 
     /// Whether no total is passed.
     pub fn is_within_limits(&self) -> bool
-        requires { HasRate self.now }
+        requires { HasRanges self.now }
         ensures { result ≡ is_within self.now }
     {
         let cycles = capped_cycles(self.cycles.as_slice());

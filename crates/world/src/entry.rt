@@ -1,6 +1,6 @@
 ghost use Rattle.std.specs.Prelude.{◌≡◌, IfOk, IfSome, Some, None, map};
 ghost use Rattle.std.specs.Str.{bytes_eq};
-ghost use Rattle.world.specs.TraceFile.{start_of, rate_of, period_of, values_of, sense_of, sense_with, cycle_of, cycle_with, entry_of, IsRated};
+ghost use Rattle.world.specs.TraceFile.{start_of, rate_of, period_of, values_of, sense_of, sense_with, cycle_of, cycle_with, entry_of, IsRanged};
 
 use crate::text::number_within;
 use base16::{NoMemory, Sequence};
@@ -50,7 +50,7 @@ pub(crate) fn is_word(field: &[u8], word: &[u8]) -> bool
 /// `MS` after `start`.
 fn start(args: &[&[u8]]) -> Option<Entry>
     ensures value { result ≡ start_of (map (λ f. f.now) args.now) }
-    ensures rated { IfSome result IsRated }
+    ensures ranged { IfSome result IsRanged }
 {
     match args {
         [ms] => match number_within(0, MOST_MS, ms) {
@@ -64,7 +64,7 @@ fn start(args: &[&[u8]]) -> Option<Entry>
 /// `TICKS` after `rate`.
 fn rate(args: &[&[u8]]) -> Option<Entry>
     ensures value { result ≡ rate_of (map (λ f. f.now) args.now) }
-    ensures rated { IfSome result IsRated }
+    ensures ranged { IfSome result IsRanged }
 {
     match args {
         [ticks] => match number_within(1, MOST_TICKS, ticks) {
@@ -78,7 +78,7 @@ fn rate(args: &[&[u8]]) -> Option<Entry>
 /// `TICKS` after `period`.
 fn period(args: &[&[u8]]) -> Option<Entry>
     ensures value { result ≡ period_of (map (λ f. f.now) args.now) }
-    ensures rated { IfSome result IsRated }
+    ensures ranged { IfSome result IsRanged }
 {
     match args {
         [ticks] => match number_within(1, MOST_TICKS, ticks) {
@@ -106,7 +106,7 @@ fn values(alloc: Global, args: &[&[u8]]) -> Result<Option<Sequence<u16>>, NoMemo
 /// `VALUE ..` after a channel.
 fn sense_on(alloc: Global, args: &[&[u8]], channel: u8) -> Result<Option<Entry>, NoMemory>
     ensures value { IfOk result (λ entry. entry ≡ sense_with (map (λ f. f.now) args.now) channel) }
-    ensures rated { IfOk result (λ entry. IfSome entry IsRated) }
+    ensures ranged { IfOk result (λ entry. IfSome entry IsRanged) }
 {
     match values(alloc, args)? {
         Some(values) => Ok(Some(Entry::Sense(SenseLine { channel, values }))),
@@ -117,7 +117,7 @@ fn sense_on(alloc: Global, args: &[&[u8]], channel: u8) -> Result<Option<Entry>,
 /// `CHANNEL VALUE ..` after `sense`.
 fn sense(alloc: Global, args: &[&[u8]]) -> Result<Option<Entry>, NoMemory>
     ensures value { IfOk result (λ entry. entry ≡ sense_of (map (λ f. f.now) args.now)) }
-    ensures rated { IfOk result (λ entry. IfSome entry IsRated) }
+    ensures ranged { IfOk result (λ entry. IfSome entry IsRanged) }
 {
     match args {
         [channel, values @ ..] if !values.is_empty() => match number_within(0, 15, channel) {
@@ -131,7 +131,7 @@ fn sense(alloc: Global, args: &[&[u8]]) -> Result<Option<Entry>, NoMemory>
 /// A line of power cycles, if each of its numbers is one.
 fn cycle_line(ticks: Option<u32>, off: Option<u32>, count: Option<u32>) -> Option<Entry>
     ensures value { result ≡ cycle_with ticks off count }
-    ensures rated { IfSome result IsRated }
+    ensures ranged { IfSome result IsRanged }
 {
     match (ticks, off, count) {
         (Some(ticks), Some(off), Some(count)) => {
@@ -144,7 +144,7 @@ fn cycle_line(ticks: Option<u32>, off: Option<u32>, count: Option<u32>) -> Optio
 /// `TICKS OFF [COUNT]` after `cycle`.
 fn cycle(args: &[&[u8]]) -> Option<Entry>
     ensures value { result ≡ cycle_of (map (λ f. f.now) args.now) }
-    ensures rated { IfSome result IsRated }
+    ensures ranged { IfSome result IsRanged }
 {
     match args {
         [ticks, off] => cycle_line(
@@ -165,7 +165,7 @@ fn cycle(args: &[&[u8]]) -> Option<Entry>
 #[tactic(auto, unfolding(crate::specs::TraceFile::entry_of))]
 pub(crate) fn read_entry(alloc: Global, fields: &[&[u8]]) -> Result<Option<Entry>, NoMemory>
     ensures value { IfOk result (λ entry. entry ≡ entry_of (map (λ f. f.now) fields.now)) }
-    ensures rated { IfOk result (λ entry. IfSome entry IsRated) }
+    ensures ranged { IfOk result (λ entry. IfSome entry IsRanged) }
 {
     match fields {
         [] => Ok(None),

@@ -1,7 +1,7 @@
 ghost use Rattle.std.specs.Prelude.{◌≡◌, ◌+◌, ◌<◌, ◌^◌, Some, None, Ok, length, map, IfOk, IfErr, MatchBool, true, is_some};
 ghost use Rattle.std.specs.Str.Lines.{lines};
 ghost use Rattle.world.specs.Refusal.{IsRefusalOf};
-ghost use Rattle.world.specs.TraceFile.{is_first, with_start, with_rate, with_period, with_entry, with_fields, with_line, read_from, no_line, IsRated, HasRate};
+ghost use Rattle.world.specs.TraceFile.{is_first, with_start, with_rate, with_period, with_entry, with_fields, with_line, read_from, no_line, IsRanged, HasRanges};
 
 use crate::draft::Draft;
 use crate::entry::{Entry, is_word, read_entry};
@@ -25,8 +25,8 @@ fn set_once(place: &mut Option<u32>, number: u32) -> bool
 
 /// Takes what a line says; false where it says a second time what may be said once.
 fn take_entry(draft: &mut Draft, entry: Entry) -> Result<bool, NoMemory>
-    requires { IsRated entry }
-    ensures rated { IfOk result (λ good. HasRate draft.old → HasRate draft.new) }
+    requires { IsRanged entry }
+    ensures ranged { IfOk result (λ good. HasRanges draft.old → HasRanges draft.new) }
     ensures value { IfOk result (λ good. MatchBool good (with_entry draft.old entry ≡ Some draft.new) (with_entry draft.old entry ≡ None)) }
 {
     match entry {
@@ -57,7 +57,7 @@ fn begins_trace(fields: &[&[u8]]) -> bool
 /// Takes the fields of a line; false where the line is bad.
 #[tactic(auto, unfolding(crate::specs::TraceFile::with_fields))]
 fn take_fields(alloc: Global, draft: &mut Draft, fields: &[&[u8]]) -> Result<bool, NoMemory>
-    ensures rated { IfOk result (λ good. HasRate draft.old → HasRate draft.new) }
+    ensures ranged { IfOk result (λ good. HasRanges draft.old → HasRanges draft.new) }
     ensures value { IfOk result (λ good. MatchBool good
         (with_fields draft.old (map (λ f. f.now) fields.now) ≡ Some draft.new)
         (with_fields draft.old (map (λ f. f.now) fields.now) ≡ None)) }
@@ -75,7 +75,7 @@ fn take_fields(alloc: Global, draft: &mut Draft, fields: &[&[u8]]) -> Result<boo
 /// Takes a line; false where it is bad.
 #[tactic(auto, unfolding(crate::specs::TraceFile::with_line))]
 fn take_line(alloc: Global, draft: &mut Draft, line: &[u8]) -> Result<bool, NoMemory>
-    ensures rated { IfOk result (λ good. HasRate draft.old → HasRate draft.new) }
+    ensures ranged { IfOk result (λ good. HasRanges draft.old → HasRanges draft.new) }
     ensures value { IfOk result (λ good. MatchBool good (with_line draft.old line.now ≡ Some draft.new) (with_line draft.old line.now ≡ None)) }
 {
     if says_nothing(line) {
@@ -92,7 +92,7 @@ fn take_line(alloc: Global, draft: &mut Draft, line: &[u8]) -> Result<bool, NoMe
 fn read_lines(alloc: Global, lines: &[&[u8]]) -> Result<Draft, TraceErr>
     requires { length lines.now < 2 ^ 32 }
     ensures ok { IfOk result (λ draft. read_from 1 no_line (map (λ l. l.now) lines.now) ≡ Ok draft) }
-    ensures rated { IfOk result HasRate }
+    ensures ranged { IfOk result HasRanges }
     ensures bad { IfErr result (IsRefusalOf (read_from 1 no_line (map (λ l. l.now) lines.now))) }
 {
     let mut draft = Draft {
@@ -119,7 +119,7 @@ fn read_lines(alloc: Global, lines: &[&[u8]]) -> Result<Draft, TraceErr>
 pub(crate) fn read_draft(alloc: Global, text: &[u8]) -> Result<Draft, TraceErr>
     requires { length (lines text.now) < 2 ^ 32 }
     ensures ok { IfOk result (λ draft. read_from 1 no_line (lines text.now) ≡ Ok draft) }
-    ensures rated { IfOk result HasRate }
+    ensures ranged { IfOk result HasRanges }
     ensures bad { IfErr result (IsRefusalOf (read_from 1 no_line (lines text.now))) }
 {
     let lines = lines_of(alloc, text)?;

@@ -3,7 +3,7 @@ ghost use Rattle.std.specs.Str.Lines.{lines};
 ghost use Rattle.world.specs.Plan.{ticks_of};
 ghost use Rattle.world.specs.Refusal.{IsRefusalOf};
 ghost use Rattle.world.specs.TraceWorld.{value_at};
-ghost use Rattle.world.specs.TraceFile.{trace_of, plan_of, is_within, HasRate};
+ghost use Rattle.world.specs.TraceFile.{trace_of, plan_of, is_within, HasRanges};
 
 use crate::cycle::PowerCycle;
 use crate::draft::{Draft, channels, cycles};
@@ -133,7 +133,7 @@ fn value_or_last(values: &[u16], place: u32) -> u16
 /// The trace that the lines make, none of whose totals is passed.
 #[tactic(auto, using(crate::proofs::PlanLemmas::plan_is_plan), unfolding(crate::specs::TraceFile::plan_of))]
 fn trace_from(alloc: Global, draft: Draft) -> Result<Trace, NoMemory>
-    requires rate { HasRate draft }
+    requires ranged { HasRanges draft }
     requires within { IsTrue (is_within draft) }
     ensures { IfOk result (λ trace. trace ≡ plan_of draft) }
 {
