@@ -1,2 +1,3 @@
+pub mod FewLines
 pub mod LogLemmas
 pub mod RollLemmas

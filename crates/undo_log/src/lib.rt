@@ -6,3 +6,6 @@ mod storing;
 
 pub use rolling::rollback;
 pub use storing::{put, room, store};
+
+#[cfg(test)]
+mod tests;
