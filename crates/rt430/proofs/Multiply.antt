@@ -17,7 +17,8 @@ use Rattle.run430.proofs.Placing.{places, moved}
 use Rattle.run430.proofs.Compose.{Runs-append}
 use Rattle.run430.proofs.Rules.{two_sets, jump}
 use Rattle.run430.proofs.Operands.{in_register, to_register, given, constant}
-use Rattle.rt430.specs.Routines.{Multiplies}
+use Rattle.rt430.specs.declared.words.Helper.TheVariants.{Mul16}
+use Rattle.rt430.specs.Routines.{Returns, Computes}
 use Rattle.rt430.proofs.Stretch.{no_carry, carries, counted_out, counts_on, one_less, Went, AtReturn, owns, comes_back}
 
 abbrev return_part : List Instr
@@ -261,7 +262,7 @@ module _ (denied : ℕ → Bool) (R W : ℕ → Type 0) (lo hi : ℕ) (own : Own
         so = record { place = w.so.place; stack = w.so.stack; answers = w.so.answers ∙ ap (λ (k : ℕ). k % 65536) product; kept = w.so.kept };
       }
 
-pub multiplies : Multiplies (words_of_code code)
+pub multiplies : Computes Mul16 (words_of_code code)
 multiplies denied base x y s h d =
     let high = h.base_high in
     let low = h.base_low in
@@ -271,3 +272,6 @@ multiplies denied base x y s h d =
     let e : base + 2 + 4 + 2 + 2 + 2 + 2 + 2 + 2 + 2 ≡ base + 20 = omega arith in
     let back = moved s.memory base (base + 22) _ _ return_part e placed.1.1.1.1.1.1.1.1.1 in
     comes_back denied base 22 (base + 20) 100 ((x * y) % 65536) s h.stack_even (omega arith) back.0 w
+
+pub product_returns : Returns (words_of_code code)
+product_returns denied base x y s h = ((x * y) % 65536, multiplies denied base x y s h tt)

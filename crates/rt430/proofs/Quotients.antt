@@ -13,7 +13,8 @@ use Rattle.run430.proofs.Words.{Agrees-self}
 use Rattle.run430.proofs.Placing.{places, moved}
 use Rattle.run430.proofs.Rules.{two_sets}
 use Rattle.run430.proofs.Operands.{in_register, to_register}
-use Rattle.rt430.specs.Routines.{Answers, Returns, Divides, GivesRemainder}
+use Rattle.rt430.specs.declared.words.Helper.TheVariants.{Udiv16, Umod16}
+use Rattle.rt430.specs.Routines.{Answers, Returns, Computes}
 use Rattle.rt430.proofs.Stretch.{Went, then_went, owns, comes_back}
 use Rattle.rt430.proofs.Divide.{divide_then, After, divides, divides_none}
 
@@ -42,7 +43,7 @@ quotient_placed denied base x y s h =
     let high = h.base_high in
     places s.memory base (base + 26) (omega arith) quotient_code base h.words refl h.base_even (omega arith) (omega arith)
 
-pub quotient_answers : Divides (words_of_code quotient_code)
+pub quotient_answers : Computes Udiv16 (words_of_code quotient_code)
 quotient_answers denied base x y s h d =
     let placed = quotient_placed denied base x y s h in
     quotient_back denied base x y (x / y) (x % y) s h placed (divides denied (RoutineReads base 26 (s.regs 1)) (RoutineWrites (s.regs 1)) base (base + 26) (owns base 26 (s.regs 1)) base (s.regs 1) (s.regs 11) s.regs s.memory return_part placed x y s.regs (omega (arith, d)) h.second_word h.first_word h.place refl h.first h.second refl (refl, refl, refl, refl))
@@ -82,7 +83,7 @@ remainder_placed denied base x y s h =
     let high = h.base_high in
     places s.memory base (base + 28) (omega arith) remainder_code base h.words refl h.base_even (omega arith) (omega arith)
 
-pub remainder_answers : GivesRemainder (words_of_code remainder_code)
+pub remainder_answers : Computes Umod16 (words_of_code remainder_code)
 remainder_answers denied base x y s h d =
     let placed = remainder_placed denied base x y s h in
     remainder_back denied base x y (x / y) (x % y) s h placed (divides denied (RoutineReads base 28 (s.regs 1)) (RoutineWrites (s.regs 1)) base (base + 28) (owns base 28 (s.regs 1)) base (s.regs 1) (s.regs 11) s.regs s.memory rest_part placed x y s.regs (omega (arith, d)) h.second_word h.first_word h.place refl h.first h.second refl (refl, refl, refl, refl))

@@ -14,7 +14,8 @@ use Rattle.run430.specs.Code.{words_of_code}
 use Rattle.run430.specs.Routine.{IsCall, RoutineReads, RoutineWrites}
 use Rattle.run430.proofs.Placing.{places, moved}
 use Rattle.rt430.specs.Operators.{signed_right_shifted, halved}
-use Rattle.rt430.specs.Routines.{Answers, Returns, ShiftsLeft, ShiftsRight, ShiftsSignedRight}
+use Rattle.rt430.specs.declared.words.Helper.TheVariants.{Shl, Shr, Sar}
+use Rattle.rt430.specs.Routines.{Answers, Returns, Computes}
 use Rattle.rt430.proofs.Stretch.{owns, comes_back}
 use Rattle.std.proofs.Math.Nat.{div-div-eq-div-mul}
 use Rattle.std.proofs.lemmas.Nat.{mul-mod_first}
@@ -86,7 +87,7 @@ left_goes denied base x y s h =
 pub left_returns : Returns (words_of_code left_code)
 left_returns denied base x y s h = (times (λ x. (2 * x) % 65536) (y % 16) x, left_goes denied base x y s h)
 
-pub left_answers : ShiftsLeft (words_of_code left_code)
+pub left_answers : Computes Shl (words_of_code left_code)
 left_answers denied base x y s h l = subst (λ (k : ℕ). Answers denied (words_of_code left_code) base k s) (ap (λ (k : ℕ). times (λ x. (2 * x) % 65536) k x) (count_is y l) ∙ left_times y x h.first_word) (left_goes denied base x y s h)
 
 signed_right_goes : (denied : ℕ → Bool) (base x y : ℕ) (s : State) → IsCall denied (words_of_code signed_right_code) base x y s → Answers denied (words_of_code signed_right_code) base (times (λ x. shifted false (is_negative false x) x) (y % 16) x) s
@@ -107,7 +108,7 @@ signed_right_goes denied base x y s h =
 pub signed_right_returns : Returns (words_of_code signed_right_code)
 signed_right_returns denied base x y s h = (times (λ x. shifted false (is_negative false x) x) (y % 16) x, signed_right_goes denied base x y s h)
 
-pub signed_right_answers : ShiftsSignedRight (words_of_code signed_right_code)
+pub signed_right_answers : Computes Sar (words_of_code signed_right_code)
 signed_right_answers denied base x y s h l = subst (λ (k : ℕ). Answers denied (words_of_code signed_right_code) base k s) (ap (λ (k : ℕ). times (λ x. shifted false (is_negative false x) x) k x) (count_is y l) ∙ signed_right_times y x h.first_word) (signed_right_goes denied base x y s h)
 
 right_goes : (denied : ℕ → Bool) (base x y : ℕ) (s : State) → IsCall denied (words_of_code right_code) base x y s → Answers denied (words_of_code right_code) base (times (λ x. x / 2) (y % 16) x) s
@@ -130,5 +131,5 @@ right_goes denied base x y s h =
 pub right_returns : Returns (words_of_code right_code)
 right_returns denied base x y s h = (times (λ x. x / 2) (y % 16) x, right_goes denied base x y s h)
 
-pub right_answers : ShiftsRight (words_of_code right_code)
+pub right_answers : Computes Shr (words_of_code right_code)
 right_answers denied base x y s h l = subst (λ (k : ℕ). Answers denied (words_of_code right_code) base k s) (ap (λ (k : ℕ). times (λ x. x / 2) k x) (count_is y l) ∙ right_times y x) (right_goes denied base x y s h)

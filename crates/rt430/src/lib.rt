@@ -3,7 +3,7 @@
 
 mod words;
 
-pub use words::{division, left_shift, multiplication, remainder, right_shift, signed_right_shift};
+pub use words::{Helper, routine};
 
 #[cfg(test)]
 mod tests;

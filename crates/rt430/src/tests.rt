@@ -62,6 +62,35 @@ const QUOTIENTS: [(u16, u16, u16, u16); 10] = [
     (1000, 10, 100, 0),
 ];
 
+/// Left and right operand, and their quotient and remainder as signed numbers. All are words: 65535 is -1, and 32768 is
+/// -32768.
+const SIGNED_QUOTIENTS: [(u16, u16, u16, u16); 24] = [
+    (0, 1, 0, 0),
+    (0, 65535, 0, 0),
+    (1, 65535, 65535, 0),
+    (65535, 1, 65535, 0),
+    (65535, 65535, 1, 0),
+    (7, 2, 3, 1),
+    (65529, 2, 65533, 65535), // -7 / 2 is -3, and -1 is left
+    (7, 65534, 65533, 1), // 7 / -2 is -3, and 1 is left
+    (65529, 65534, 3, 65535), // -7 / -2 is 3, and -1 is left
+    (32767, 1, 32767, 0),
+    (32767, 65535, 32769, 0),
+    (32767, 32767, 1, 0),
+    (32767, 32768, 0, 32767),
+    (32768, 1, 32768, 0),
+    (32768, 2, 49152, 0),
+    (32768, 32767, 65535, 65535),
+    (32768, 32768, 1, 0),
+    (32769, 32768, 0, 32769),
+    (65535, 32768, 0, 65535),
+    (32768, 3, 54614, 65534), // -32768 / 3 is -10922, and -2 is left
+    (32768, 65533, 10922, 65534),
+    (1024, 65528, 65408, 0), // 1024 / -8 is -128
+    (1023, 65528, 65409, 7), // 1023 / -8 is -127, and 7 are left
+    (64512, 255, 65532, 65532), // -1024 / 255 is -4, and -4 is left
+];
+
 /// Value, count, and the value shifted to the left, to the right and to the right as a signed number.
 const SHIFTED: [(u16, u16, u16, u16, u16); 8] = [
     (1, 15, 32768, 0, 0),
@@ -78,7 +107,7 @@ const SHIFTED: [(u16, u16, u16, u16, u16); 8] = [
 fn products_are_those_worked_by_hand(rt: HostRuntime) -> Result<(), Fail> {
     for (x, y, product) in PRODUCTS {
         assert_eq!(rt;
-            answer(rt.alloc(), &multiplication(), x, y)?,
+            answer(rt.alloc(), routine(Helper::Mul16), x, y)?,
             product,
             "{x} * {y}"
         );
@@ -90,11 +119,32 @@ fn products_are_those_worked_by_hand(rt: HostRuntime) -> Result<(), Fail> {
 fn quotients_are_those_worked_by_hand(rt: HostRuntime) -> Result<(), Fail> {
     for (x, y, quotient, rest) in QUOTIENTS {
         assert_eq!(rt;
-            answer(rt.alloc(), &division(), x, y)?,
+            answer(rt.alloc(), routine(Helper::Udiv16), x, y)?,
             quotient,
             "{x} / {y}"
         );
-        assert_eq!(rt; answer(rt.alloc(), &remainder(), x, y)?, rest, "{x} % {y}");
+        assert_eq!(rt;
+            answer(rt.alloc(), routine(Helper::Umod16), x, y)?,
+            rest,
+            "{x} % {y}"
+        );
+    }
+    Ok(())
+}
+
+#[test]
+fn signed_quotients_are_those_worked_by_hand(rt: HostRuntime) -> Result<(), Fail> {
+    for (x, y, quotient, rest) in SIGNED_QUOTIENTS {
+        assert_eq!(rt;
+            answer(rt.alloc(), routine(Helper::Sdiv16), x, y)?,
+            quotient,
+            "{x} / {y}"
+        );
+        assert_eq!(rt;
+            answer(rt.alloc(), routine(Helper::Smod16), x, y)?,
+            rest,
+            "{x} % {y}"
+        );
     }
     Ok(())
 }
@@ -103,17 +153,17 @@ fn quotients_are_those_worked_by_hand(rt: HostRuntime) -> Result<(), Fail> {
 fn shifts_are_those_worked_by_hand(rt: HostRuntime) -> Result<(), Fail> {
     for (x, count, left, right, signed_right) in SHIFTED {
         assert_eq!(rt;
-            answer(rt.alloc(), &left_shift(), x, count)?,
+            answer(rt.alloc(), routine(Helper::Shl), x, count)?,
             left,
             "{x} << {count}"
         );
         assert_eq!(rt;
-            answer(rt.alloc(), &right_shift(), x, count)?,
+            answer(rt.alloc(), routine(Helper::Shr), x, count)?,
             right,
             "{x} >> {count}"
         );
         assert_eq!(rt;
-            answer(rt.alloc(), &signed_right_shift(), x, count)?,
+            answer(rt.alloc(), routine(Helper::Sar), x, count)?,
             signed_right,
             "{x} >> {count}"
         );

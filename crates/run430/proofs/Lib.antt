@@ -2,6 +2,7 @@ pub mod Words
 pub mod Placing
 pub mod Rules
 pub mod Stack
+pub mod Return
 pub mod Operands
 pub mod Compose
 pub mod FlagLemmas
