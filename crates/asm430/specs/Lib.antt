@@ -1,2 +1,4 @@
 pub mod Assembly
 pub mod Emission
+pub mod Listing
+pub mod Printing

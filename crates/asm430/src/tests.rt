@@ -1,7 +1,8 @@
-ghost use Rattle.std.specs.Prelude.{◌≡◌, ◌+◌, ◌^◌, ◌<◌, length, IfOk, IsTrue};
+ghost use Rattle.std.specs.Prelude.{◌≡◌, ◌+◌, ◌^◌, ◌<◌, ◌≤◌, length, IfOk, IsTrue};
 ghost use Rattle.asm430.specs.Assembly.{are_formed, is_formed};
 
-use crate::{AsmErr, Item, assemble};
+use crate::{AsmErr, Item, assemble, code_is_read_in_one_way, listing};
+use base16::{FuncSym, Image, Kind, Name, NoMemory, Scalar, Sequence, Symbols};
 use isa430::{Cond, Dst, Instr, Src, TwoOp};
 use std::alloc::{AllocError, Global};
 use std::process::Abort;
@@ -216,5 +217,107 @@ fn the_code_has_at_most_14336_words(rt: HostRuntime) -> Result<(), Fail> {
             distance: 15000,
         },
     );
+    Ok(())
+}
+
+/// A plain and a timed scalar, and two functions.
+fn symbols(alloc: Global) -> Result<Symbols, NoMemory> {
+    let mut scalars = Sequence::new(alloc);
+    scalars.push(Scalar {
+        name: Name::new(alloc, b"g")?,
+        address: 0x4000,
+        kind: Kind::Int,
+        stamp: None,
+    })?;
+    scalars.push(Scalar {
+        name: Name::new(alloc, b"t[1].m")?,
+        address: 0x4abc,
+        kind: Kind::UInt,
+        stamp: Some(0x4004),
+    })?;
+    let mut functions = Sequence::new(alloc);
+    functions.push(FuncSym {
+        name: Name::new(alloc, b"f")?,
+        address: 0x8def,
+        frame: 240,
+    })?;
+    functions.push(FuncSym {
+        name: Name::new(alloc, b"main")?,
+        address: 0x8028,
+        frame: 6,
+    })?;
+    Ok(Symbols { scalars, functions })
+}
+
+fn check_listing(
+    rt: &impl Abort,
+    alloc: Global,
+    code: &[u16],
+    tables: u16,
+    symbols: Symbols,
+    text: &[u8],
+) -> Result<(), NoMemory>
+    requires few { length code.now ≤ 14336 }
+    requires tables { tables ≤ length code.now }
+{
+    let image = Image {
+        code: Sequence::from_vec(Vec::from_slice(alloc, code)?),
+        tables,
+        globals: Sequence::new(alloc),
+        symbols,
+    };
+    let made = listing(alloc, &image)?;
+    assert_eq!(rt; made.as_slice(), text, "{code:?}");
+    Ok(())
+}
+
+#[test]
+fn a_listing_has_instructions_then_tables_then_symbols(rt: HostRuntime) -> Result<(), Fail> {
+    let alloc = rt.alloc();
+    check_listing(
+        &rt,
+        alloc,
+        &[0x12b0, 0x8028, 0x403c, 0x1234, 0x00ff],
+        4,
+        symbols(alloc)?,
+        b"8000 12b0 8028\n8004 403c 1234\n8008 data 00ff\nglobal g 4000\nglobal t[1].m 4abc\n\
+          stamp t[1].m 4004\nfunction f 8def 240\nfunction main 8028 6\n",
+    )?;
+    code_is_read_in_one_way();
+    Ok(())
+}
+
+#[test]
+fn a_word_that_begins_no_instruction_is_listed_as_data(rt: HostRuntime) -> Result<(), Fail> {
+    let alloc = rt.alloc();
+    let none = || Symbols {
+        scalars: Sequence::new(alloc),
+        functions: Sequence::new(alloc),
+    };
+    check_listing(&rt, alloc, &[], 0, none(), b"")?;
+    check_listing(
+        &rt,
+        alloc,
+        &[0x4303, 7],
+        0,
+        none(),
+        b"8000 data 4303\n8002 data 0007\n",
+    )?;
+    check_listing(
+        &rt,
+        alloc,
+        &[0x4303, 0x1300, 0xa506, 0x40b2, 0x1234, 0x4000],
+        6,
+        none(),
+        b"8000 4303\n8002 data 1300\n8004 data a506\n8006 40b2 1234 4000\n",
+    )?;
+    check_listing(
+        &rt,
+        alloc,
+        &[0x40b2, 0x403c, 0x1234],
+        2,
+        none(),
+        b"8000 data 40b2\n8002 data 403c\n8004 data 1234\n",
+    )?;
     Ok(())
 }
