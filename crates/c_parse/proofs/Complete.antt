@@ -1,5 +1,5 @@
 -- What is spelled is read.
-use Rattle.std.proofs.Common.{◌≡◌, ℕ, zero, suc, ◌+◌, ◌<◌, ◌≤◌, Bool, true, false, ◌&&◌, List, [], ◌∷◌, ◌++◌, map, max, length, Option, Some, None, refl, sym, ap, ◌∙◌, append_assoc, append-nil, subst, arith, ◌⊎◌, inl, inr}
+use Rattle.std.proofs.Common.{◌≡◌, ℕ, zero, suc, ◌+◌, ◌<◌, ◌≤◌, Bool, true, false, List, [], ◌∷◌, ◌++◌, max, length, Option, Some, None, refl, sym, ap, ◌∙◌, append_assoc, append-nil, subst, arith, ◌⊎◌, inl, inr}
 use Rattle.std.proofs.lemmas.Bool.{le-leb, lt-leb}
 use Rattle.c_lex.specs.declared.token.Token.{Token}
 use Rattle.c_lex.specs.declared.token.TokenKind.{TokenKind}
@@ -7,22 +7,18 @@ use Rattle.c_lex.specs.declared.token.TokenKind.TheVariants.{Word, Number, Char,
 use Rattle.c_lex.specs.declared.token.Keyword.TheVariants as w
 use Rattle.c_lex.specs.declared.token.Mark.{Mark as AMark}
 use Rattle.c_lex.specs.declared.token.Mark.TheVariants as m
-use Rattle.c_tree.specs.declared.qualified.Qual.{Qual}
-use Rattle.c_tree.specs.declared.qualified.Spec.{Spec}
 use Rattle.c_tree.specs.declared.expression.Expr.{Expr}
 use Rattle.c_tree.specs.declared.expression.ExprKind.{ExprKind}
-use Rattle.c_tree.specs.declared.expression.ExprKind.TheVariants as k
 use Rattle.c_tree.specs.declared.expression.Typename.{Typename}
 use Rattle.c_tree.specs.Measure.{all, expr_height, expr_kind_measure, typename_measure}
 use Rattle.c_tree.proofs.ExprMeasures as measure
-use Rattle.c_parse.specs.declared.wanted.Wanted.{Wanted}
 use Rattle.c_parse.specs.declared.wanted.Wanted.TheVariants as want
 use Rattle.c_parse.specs.Expected.{fits}
-use Rattle.c_parse.specs.Ranks.{assign_rank, conditional_rank, or_rank, cast_rank, unary_rank, postfix_rank, rank, rank_of}
+use Rattle.c_parse.specs.Ranks.{conditional_rank, cast_rank, unary_rank, rank, rank_of}
 use Rattle.c_parse.specs.Tables.{Prefix, prefix, Joint, joint}
-use Rattle.c_parse.specs.TypeWords.{Tokens, line_at, Specified, Stars}
-use Rattle.c_parse.specs.Grammar.{node, typename, Spells, begun, gone_on, Begins, name, number, character, paren, cast, prefixed, sizeof_expr, sizeof_type, GoesOn, joined, conditional, index, call, member, arrow, increment, decrement, Arguments, none, some, Listed, last, further, NamesType, names, Bounds, no_bound, a_bound}
-use Rattle.c_parse.specs.Steps.{Parser, Outcome, and_then}
+use Rattle.c_parse.specs.TypeWords.{Tokens, line_at}
+use Rattle.c_parse.specs.Grammar.{node, Spells, begun, gone_on, Begins, name, number, character, paren, cast, prefixed, sizeof_expr, sizeof_type, GoesOn, joined, conditional, index, call, member, arrow, increment, decrement, Arguments, none, some, Listed, last, further, NamesType, names, Bounds, no_bound, a_bound}
+use Rattle.c_parse.specs.Steps.{Parser}
 use Rattle.c_parse.specs.TypeReading.{names_type}
 use Rattle.c_parse.specs.Reading as r
 use Rattle.c_parse.proofs.Fitting.{fits_not, it_fits}

@@ -1,7 +1,6 @@
 -- The declarations that stand there are read.
-use Rattle.std.proofs.Common.{◌≡◌, ℕ, zero, suc, ◌+◌, ◌<◌, ◌≤◌, Bool, true, false, List, [], ◌∷◌, ◌++◌, map, max, length, Option, Some, None, refl, sym, ap, ◌∙◌, append_assoc, arith}
+use Rattle.std.proofs.Common.{◌≡◌, ℕ, zero, suc, ◌+◌, ◌<◌, ◌≤◌, Bool, true, false, List, [], ◌∷◌, ◌++◌, max, length, Option, Some, refl, ap, ◌∙◌, append_assoc, arith}
 use Rattle.c_lex.specs.declared.token.Token.{Token}
-use Rattle.c_lex.specs.declared.token.TokenKind.{TokenKind}
 use Rattle.c_lex.specs.declared.token.TokenKind.TheVariants.{Word, Mark}
 use Rattle.c_lex.specs.declared.token.Mark.{Mark as AMark}
 use Rattle.c_lex.specs.declared.token.Mark.TheVariants as m
@@ -18,22 +17,21 @@ use Rattle.c_tree.specs.declared.declarations.Init.{Init}
 use Rattle.c_tree.specs.declared.declarations.Declaration.{Declaration}
 use Rattle.c_tree.specs.Measure.{all, optional, expr_height, initial_measure, init_measure, declaration_measure}
 use Rattle.c_tree.proofs.StatementMeasures as measure
-use Rattle.c_parse.specs.declared.wanted.Wanted.{Wanted}
 use Rattle.c_parse.specs.declared.wanted.Wanted.TheVariants as want
 use Rattle.c_parse.specs.Expected.{fits}
-use Rattle.c_parse.specs.Ranks.{assign_rank, rank}
-use Rattle.c_parse.specs.TypeWords.{Tokens, line_at, Specified, Stars, no_star, a_star}
-use Rattle.c_parse.specs.Grammar.{Spells, Bounds}
+use Rattle.c_parse.specs.Ranks.{assign_rank}
+use Rattle.c_parse.specs.TypeWords.{Tokens, line_at, Stars}
+use Rattle.c_parse.specs.Grammar.{Bounds}
 use Rattle.c_parse.specs.Repeats.{Commas, last, further}
 use Rattle.c_parse.specs.Declarations.{unit_text, Lasts, lasts, Declares, declares, Values, valued, braced, Lists, last_item, last_comma, next_item, Initialised, without, with_value, Inits, inits, Declaring, declaring}
-use Rattle.c_parse.specs.Steps.{Parser, Outcome, and_then}
+use Rattle.c_parse.specs.Steps.{Parser}
 use Rattle.c_parse.specs.Reading as e
 use Rattle.c_parse.specs.TypeReading as types
 use Rattle.c_parse.specs.DeclarationReading as r
 use Rattle.c_parse.proofs.Fitting.{it_fits}
 use Rattle.c_parse.proofs.Repeated.{commas_again, commas_shorter, more_commas_none, more_commas_some}
 use Rattle.c_parse.proofs.TypeComplete.{spec_shorter, stars_shorter, spec_again, Untyped, Unqualified, stars_untyped, all_stars_again}
-use Rattle.c_parse.proofs.Complete.{spells_shorter, bounds_shorter, spells_high, Starts, spells_start, lacks, closes, another_mark, expr_again, all_bounds_again}
+use Rattle.c_parse.proofs.Complete.{spells_shorter, bounds_shorter, spells_high, spells_start, lacks, closes, another_mark, expr_again, all_bounds_again}
 use Rattle.c_parse.proofs.AfterSteps.{expect_found, take_found, Lacks, take_lacking, other_token, word_found}
 
 -- ---- durations

@@ -1,38 +1,33 @@
 -- The declarations that are read stand there.
-use Rattle.std.proofs.Common.{◌≡◌, ℕ, zero, suc, ◌≤◌, Bool, true, false, List, [], ◌∷◌, ◌++◌, map, max, length, Option, Some, None, refl, sym, ap, ◌∙◌, append_assoc, subst, arith, cond, codes, bytes_eq}
+use Rattle.std.proofs.Common.{◌≡◌, ℕ, zero, suc, ◌≤◌, Bool, true, false, List, [], ◌∷◌, ◌++◌, max, length, Option, Some, refl, sym, ap, ◌∙◌, append_assoc, subst, arith, codes, bytes_eq}
 use Rattle.c_lex.specs.declared.token.Token.{Token}
 use Rattle.c_lex.specs.declared.token.TokenKind.{TokenKind}
 use Rattle.c_lex.specs.declared.token.TokenKind.TheVariants.{Word, Number, Mark}
-use Rattle.c_lex.specs.declared.token.Mark.{Mark as AMark}
 use Rattle.c_lex.specs.declared.token.Mark.TheVariants as m
 use Rattle.c_tree.specs.declared.qualified.Qual.{Qual}
 use Rattle.c_tree.specs.declared.qualified.Spec.{Spec}
 use Rattle.c_tree.specs.declared.expression.Expr.{Expr}
 use Rattle.c_tree.specs.declared.declarations.TimeUnit.{TimeUnit}
 use Rattle.c_tree.specs.declared.declarations.TimeUnit.TheVariants as unit
-use Rattle.c_tree.specs.declared.declarations.Duration.{Duration}
-use Rattle.c_tree.specs.declared.declarations.Declr.{Declr}
 use Rattle.c_tree.specs.declared.declarations.Initial.{Initial}
 use Rattle.c_tree.specs.declared.declarations.Initial.TheVariants as initial
 use Rattle.c_tree.specs.declared.declarations.Init.{Init}
 use Rattle.c_tree.specs.declared.declarations.Declaration.{Declaration}
-use Rattle.c_tree.specs.Measure.{all, optional, expr_height, initial_measure, declr_measure, init_measure, declaration_measure}
+use Rattle.c_tree.specs.Measure.{all, optional, initial_measure, init_measure, declaration_measure}
 use Rattle.c_tree.proofs.StatementMeasures as measure
 use Rattle.c_parse.specs.declared.wanted.Wanted.TheVariants as want
-use Rattle.c_parse.specs.Expected.{fits}
-use Rattle.c_parse.specs.Ranks.{assign_rank, rank}
+use Rattle.c_parse.specs.Ranks.{assign_rank}
 use Rattle.c_parse.specs.TypeWords.{Tokens, line_at, Specified, Stars}
-use Rattle.c_parse.specs.Grammar.{Spells, Bounds}
 use Rattle.c_parse.specs.Repeats.{Commas}
-use Rattle.c_parse.specs.Declarations.{unit_text, Lasts, lasts, Declares, declares, Values, valued, braced, Lists, last_item, last_comma, next_item, Initialised, without, with_value, Inits, inits, Declaring, declaring}
-use Rattle.c_parse.specs.Steps.{Parser, Outcome, and_then, pure}
+use Rattle.c_parse.specs.Declarations.{unit_text, Lasts, lasts, declares, Values, valued, braced, Lists, last_item, last_comma, next_item, Initialised, without, with_value, Inits, inits, Declaring, declaring}
+use Rattle.c_parse.specs.Steps.{Parser}
 use Rattle.c_parse.specs.Reading as e
 use Rattle.c_parse.specs.DeclarationReading as r
 use Rattle.c_parse.proofs.Texts.{text_is}
 use Rattle.c_parse.proofs.Repeated.{commas_weaken, commas_low, more_commas_sound}
 use Rattle.c_parse.proofs.TypeSound.{spec_sound, all_stars_sound}
-use Rattle.c_parse.proofs.Sound.{Reads, expr_sound, AllBounds, all_bounds_sound}
-use Rattle.c_parse.proofs.AfterSteps.{After, nothing, just, after_then, after_if, after_branch, weaken, Found, found_at, after_expect, Taken, taken, left, after_take, Worded, worded, after_word}
+use Rattle.c_parse.proofs.Sound.{expr_sound, AllBounds, all_bounds_sound}
+use Rattle.c_parse.proofs.AfterSteps.{After, nothing, just, after_then, after_if, after_branch, weaken, Found, found_at, after_expect, Worded, worded, after_word}
 
 -- ---- durations
 

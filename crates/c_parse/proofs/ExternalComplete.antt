@@ -1,5 +1,5 @@
 -- The source that stands there is read.
-use Rattle.std.proofs.Common.{◌≡◌, ℕ, zero, suc, ◌+◌, ◌<◌, ◌≤◌, Bool, true, false, ◌&&◌, List, [], ◌∷◌, map, max, length, Option, Some, None, refl, sym, ap, ◌∙◌, arith}
+use Rattle.std.proofs.Common.{◌≡◌, ℕ, suc, ◌+◌, ◌<◌, ◌≤◌, Bool, true, false, List, [], ◌∷◌, max, length, Option, Some, None, refl, sym, ap, ◌∙◌, arith}
 use Rattle.c_lex.specs.declared.token.Token.{Token}
 use Rattle.c_lex.specs.declared.token.TokenKind.{TokenKind}
 use Rattle.c_lex.specs.declared.token.TokenKind.TheVariants.{Word, Keyword, Mark, Note}
@@ -22,32 +22,30 @@ use Rattle.c_tree.specs.declared.unit.Member.{Member}
 use Rattle.c_tree.specs.declared.unit.Struct.{Struct}
 use Rattle.c_tree.specs.declared.unit.Param.{Param}
 use Rattle.c_tree.specs.declared.unit.Params.{Params}
-use Rattle.c_tree.specs.declared.unit.Params.TheVariants as params
 use Rattle.c_tree.specs.declared.unit.Function.{Function}
 use Rattle.c_tree.specs.declared.unit.External.{External}
 use Rattle.c_tree.specs.declared.unit.External.TheVariants as external
 use Rattle.c_tree.specs.declared.unit.Tree.{Tree}
-use Rattle.c_tree.specs.Measure.{all, optional, expr_height, initial_measure, declr_measure, init_measure, member_measure, struct_measure, param_measure, params_measure, compound_measure, function_measure, external_measure, height}
+use Rattle.c_tree.specs.Measure.{all, optional, expr_height, declr_measure, init_measure, member_measure, struct_measure, param_measure, params_measure, compound_measure, function_measure, external_measure, height}
 use Rattle.c_parse.specs.declared.wanted.Wanted.TheVariants as want
 use Rattle.c_parse.specs.Expected.{fits}
-use Rattle.c_parse.specs.Ranks.{conditional_rank, rank}
-use Rattle.c_parse.specs.TypeWords.{Tokens, line_at, qual_of, Quals, no_qual, a_qual, Said, said, unsaid, Signs, no_sign, signed, unsigned, Based, void, char, unsigned_char, struct, int, signed_alone, unsigned_int, short, Specified, specified, Stars, no_star, a_star}
-use Rattle.c_parse.specs.Grammar.{Spells, Bounds}
-use Rattle.c_parse.specs.Repeats.{Commas, last, further, Many, no_more, one_more}
-use Rattle.c_parse.specs.Declarations.{Lasts, Declares, declares, Initialised, without, with_value, Inits, inits, Declaring, declaring}
-use Rattle.c_parse.specs.Externals.{Members, members, Structures, structure, Titled, untitled, titled, Sized, unsized, sized, Bracketed, no_bracket, a_bracket, Parametrises, parametrises, void_alone, Takes, nothing_taken, taken, named_in, Ends, prototype, with_body, Functions, function, Lifetimes, for_ever, expires_after, SomeInits, no_inits, some_inits, Externals, a_struct, a_function, a_declaration, SpellsTree, spells_tree}
-use Rattle.c_parse.specs.Steps.{Parser, Outcome, and_then, take_if}
+use Rattle.c_parse.specs.Ranks.{conditional_rank}
+use Rattle.c_parse.specs.TypeWords.{Tokens, line_at, qual_of, Quals, no_qual, a_qual, Said, said, unsaid, no_sign, signed, unsigned, Based, void, char, unsigned_char, struct, int, signed_alone, unsigned_int, short, Specified, specified, Stars, no_star, a_star}
+use Rattle.c_parse.specs.Grammar.{Bounds}
+use Rattle.c_parse.specs.Repeats.{Commas, last, further, one_more}
+use Rattle.c_parse.specs.Declarations.{Declares, declares, Initialised, without, with_value, Inits, inits, Declaring, declaring}
+use Rattle.c_parse.specs.Externals.{Members, members, Structures, structure, Titled, untitled, titled, Sized, unsized, sized, Bracketed, no_bracket, a_bracket, Parametrises, parametrises, void_alone, Takes, nothing_taken, taken, Ends, prototype, with_body, Functions, function, Lifetimes, for_ever, expires_after, SomeInits, no_inits, some_inits, Externals, a_struct, a_function, a_declaration, SpellsTree, spells_tree}
+use Rattle.c_parse.specs.Steps.{take_if}
 use Rattle.c_parse.specs.TypeReading.{names_type}
 use Rattle.c_parse.specs.Reading as e
-use Rattle.c_parse.specs.Repeats as lists
 use Rattle.c_parse.specs.DeclarationReading as decl
 use Rattle.c_parse.specs.StatementReading as stmt
 use Rattle.c_parse.specs.ExternalReading as r
 use Rattle.c_parse.proofs.Fitting.{it_fits, fits_not}
-use Rattle.c_parse.proofs.Repeated.{commas_again, commas_shorter, Apart, Anywhere, many_apart, many_again, many_shorter}
-use Rattle.c_parse.proofs.TypeComplete.{spec_shorter, spec_start, spec_again, stars_shorter, Untyped, Unqualified, untyped_unqualified, stars_untyped, all_stars_again}
-use Rattle.c_parse.proofs.Complete.{starts, spells_start, spells_shorter, bounds_shorter, lacks, closes, another_mark, bounds_lack, bounds_untyped, expr_again, all_bounds_again}
-use Rattle.c_parse.proofs.DeclarationComplete.{declares_shorter, inits_shorter, declaring_shorter, lasts_shorter, start_open, duration_again, EndsInit, ends_init, stars_before, word_lacks, untyped_word, declares_untyped, commas_untyped, Behind, alone, followed, behind_ends, init_again, declaration_rest_again, declaration_again}
+use Rattle.c_parse.proofs.Repeated.{commas_again, commas_shorter, Anywhere, many_apart, many_again, many_shorter}
+use Rattle.c_parse.proofs.TypeComplete.{spec_shorter, spec_start, spec_again, stars_shorter, Untyped, untyped_unqualified, stars_untyped, all_stars_again}
+use Rattle.c_parse.proofs.Complete.{spells_start, spells_shorter, bounds_shorter, lacks, closes, another_mark, bounds_lack, expr_again, all_bounds_again}
+use Rattle.c_parse.proofs.DeclarationComplete.{declares_shorter, inits_shorter, declaring_shorter, lasts_shorter, start_open, duration_again, EndsInit, ends_init, stars_before, word_lacks, untyped_word, declares_untyped, Behind, alone, followed, init_again, declaration_rest_again, declaration_again}
 use Rattle.c_parse.proofs.StatementComplete.{composes_shorter, composes_unclosed, type_unclosed, brace_closes, compound_again, statement_again}
 use Rattle.c_parse.proofs.AfterSteps.{expect_found, take_found, Lacks, take_lacking, other_token, word_found}
 

@@ -1,8 +1,8 @@
 -- The source that is read is the one that stands there.
-use Rattle.std.proofs.Common.{◌≡◌, ℕ, zero, suc, ◌≤◌, Bool, true, false, List, [], ◌∷◌, map, max, length, Option, Some, None, refl, arith, cond}
+use Rattle.std.proofs.Common.{◌≡◌, ℕ, suc, ◌≤◌, Bool, true, false, List, [], ◌∷◌, max, Option, Some, None, refl, arith}
 use Rattle.c_lex.specs.declared.token.Token.{Token}
 use Rattle.c_lex.specs.declared.token.TokenKind.{TokenKind}
-use Rattle.c_lex.specs.declared.token.TokenKind.TheVariants.{Word, Keyword, Mark}
+use Rattle.c_lex.specs.declared.token.TokenKind.TheVariants.{Word}
 use Rattle.c_lex.specs.declared.token.Keyword.TheVariants as w
 use Rattle.c_lex.specs.declared.token.Mark.TheVariants as m
 use Rattle.c_lex.specs.declared.token.Note.TheVariants as note
@@ -19,29 +19,26 @@ use Rattle.c_tree.specs.declared.unit.Struct.{Struct}
 use Rattle.c_tree.specs.declared.unit.Param.{Param}
 use Rattle.c_tree.specs.declared.unit.Params.{Params}
 use Rattle.c_tree.specs.declared.unit.Params.TheVariants as params
-use Rattle.c_tree.specs.declared.unit.Function.{Function}
 use Rattle.c_tree.specs.declared.unit.External.{External}
 use Rattle.c_tree.specs.declared.unit.External.TheVariants as external
 use Rattle.c_tree.specs.declared.unit.Tree.{Tree}
-use Rattle.c_tree.specs.Measure.{all, optional, expr_height, declr_measure, init_measure, member_measure, struct_measure, param_measure, params_measure, compound_measure, function_measure, external_measure, height}
+use Rattle.c_tree.specs.Measure.{all, optional, expr_height, declr_measure, init_measure, member_measure, struct_measure, param_measure, params_measure, compound_measure, external_measure, height}
 use Rattle.c_parse.specs.declared.wanted.Wanted.TheVariants as want
-use Rattle.c_parse.specs.Expected.{fits}
-use Rattle.c_parse.specs.Ranks.{conditional_rank, rank}
+use Rattle.c_parse.specs.Ranks.{conditional_rank}
 use Rattle.c_parse.specs.TypeWords.{Tokens, line_at, Said, said, unsaid, Specified, Stars}
 use Rattle.c_parse.specs.Repeats.{Commas, Many, one_more}
-use Rattle.c_parse.specs.Declarations.{Lasts, Declares, declares, Inits, Declaring}
-use Rattle.c_parse.specs.Externals.{Members, members, Structures, structure, Titled, untitled, titled, Sized, unsized, sized, Bracketed, no_bracket, a_bracket, Parametrises, parametrises, void_alone, Takes, nothing_taken, taken, named_in, Ends, prototype, with_body, Functions, function, Lifetimes, for_ever, expires_after, SomeInits, no_inits, some_inits, Externals, a_struct, a_function, a_declaration, SpellsTree, spells_tree}
-use Rattle.c_parse.specs.Steps.{Parser, Outcome, and_then}
+use Rattle.c_parse.specs.Declarations.{Lasts, Declares, declares}
+use Rattle.c_parse.specs.Externals.{Members, members, Structures, structure, Titled, untitled, titled, Sized, unsized, sized, Bracketed, no_bracket, a_bracket, Parametrises, parametrises, void_alone, Takes, nothing_taken, taken, named_in, Ends, prototype, with_body, function, for_ever, expires_after, SomeInits, no_inits, some_inits, Externals, a_struct, a_function, a_declaration, SpellsTree, spells_tree}
+use Rattle.c_parse.specs.Steps.{Outcome}
 use Rattle.c_parse.specs.Reading as e
-use Rattle.c_parse.specs.Repeats as lists
 use Rattle.c_parse.specs.DeclarationReading as decl
 use Rattle.c_parse.specs.StatementReading as stmt
 use Rattle.c_parse.specs.ExternalReading as r
 use Rattle.c_parse.proofs.Repeated.{commas_weaken, commas_low, commas_sound, many_weaken, many_low, many_sound}
 use Rattle.c_parse.proofs.TypeSound.{is_said, spec_sound, all_stars_sound}
-use Rattle.c_parse.proofs.Sound.{Reads, expr_sound, AllBounds, all_bounds_sound}
+use Rattle.c_parse.proofs.Sound.{expr_sound, AllBounds, all_bounds_sound}
 use Rattle.c_parse.proofs.DeclarationSound.{Made, init_sound, Declared, declaration_sound, declaration_rest_sound, duration_sound, Named, named, named_made}
-use Rattle.c_parse.proofs.StatementSound.{Composed, compound_sound, statement_sound}
+use Rattle.c_parse.proofs.StatementSound.{compound_sound, statement_sound}
 use Rattle.c_parse.proofs.AfterSteps.{After, nothing, just, after_then, after_if, after_branch, weaken, Found, found_at, after_expect, after_take, Worded, worded, after_word}
 
 title_by_sound : (t : Token) (ts : Tokens) (x : TokenKind) → t.kind ≡ x → After (λ n rest. Titled n (t ∷ ts) rest) (r.title_by x (t ∷ ts) ts)

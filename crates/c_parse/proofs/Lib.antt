@@ -21,3 +21,6 @@ pub mod ListTurns
 pub mod ParsedTree
 pub mod WholeExpression
 pub mod TreeLaws
+pub mod ParamTurns
+pub mod ExternalTurns
+pub mod DeclarationTurns

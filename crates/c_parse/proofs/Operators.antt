@@ -1,5 +1,5 @@
 -- What the tables of operators keep.
-use Rattle.std.proofs.Common.{◌≡◌, ℕ, ◌+◌, ◌<◌, ◌≤◌, max, [], ◌∷◌, Option, Some, None, refl, arith, ◌⊎◌, inl, inr}
+use Rattle.std.proofs.Common.{◌≡◌, ℕ, ◌+◌, ◌<◌, ◌≤◌, max, [], ◌∷◌, Option, Some, None, refl, arith, ◌⊎◌, inl}
 use Rattle.base16.specs.declared.operator.BinaryOp.{BinaryOp}
 use Rattle.base16.specs.declared.operator.BinaryOp.TheVariants as op
 use Rattle.base16.specs.declared.operator.UnaryOp.TheVariants as un
@@ -8,7 +8,6 @@ use Rattle.c_lex.specs.declared.token.Mark.TheVariants as m
 use Rattle.c_lex.specs.declared.token.TokenKind.{TokenKind}
 use Rattle.c_lex.specs.declared.token.TokenKind.TheVariants.{Mark}
 use Rattle.c_tree.specs.declared.expression.Expr.{Expr}
-use Rattle.c_tree.specs.declared.expression.ExprKind.{ExprKind}
 use Rattle.c_tree.specs.Measure.{expr_height, expr_kind_measure}
 use Rattle.c_tree.proofs.ExprMeasures as measure
 use Rattle.c_parse.specs.Ranks.{unary_rank, rank_of, level}

@@ -1,15 +1,15 @@
 -- Parts that repeat: what is read is there, and what is there is read.
-use Rattle.std.proofs.Common.{◌≡◌, ℕ, zero, suc, ◌+◌, ◌<◌, ◌≤◌, Bool, true, false, List, [], ◌∷◌, ◌++◌, map, max, length, Option, Some, None, refl, sym, ap, ◌∙◌, append_assoc, append-nil, subst, arith, cond}
+use Rattle.std.proofs.Common.{◌≡◌, ℕ, zero, suc, ◌+◌, ◌<◌, ◌≤◌, Bool, true, false, List, [], ◌∷◌, ◌++◌, max, length, Some, refl, sym, ap, ◌∙◌, append_assoc, append-nil, subst, arith}
 use Rattle.c_lex.specs.declared.token.Token.{Token}
 use Rattle.c_lex.specs.declared.token.TokenKind.TheVariants.{Mark}
 use Rattle.c_lex.specs.declared.token.Mark.TheVariants as m
 use Rattle.c_tree.specs.Measure.{all}
 use Rattle.c_parse.specs.declared.wanted.Wanted.TheVariants as want
 use Rattle.c_parse.specs.TypeWords.{Tokens}
-use Rattle.c_parse.specs.Steps.{Parser, Outcome, and_then, pure}
+use Rattle.c_parse.specs.Steps.{Parser}
 use Rattle.c_parse.specs.Repeats.{Commas, last, further, Many, no_more, one_more}
 use Rattle.c_parse.specs.Repeats as r
-use Rattle.c_parse.proofs.AfterSteps.{After, nothing, just, after_then, after_if, after_branch, weaken, Found, found_at, Taken, taken, left, after_take, take_found, Lacks, take_lacking}
+use Rattle.c_parse.proofs.AfterSteps.{After, nothing, just, after_then, after_if, after_branch, weaken, Found, found_at, take_found, Lacks, take_lacking}
 
 -- ---- facts of each part
 

@@ -1,5 +1,5 @@
 -- What is read is spelled.
-use Rattle.std.proofs.Common.{◌≡◌, ℕ, zero, suc, ◌≤◌, Bool, true, false, ◌&&◌, List, [], ◌∷◌, ◌++◌, map, max, length, Option, Some, None, refl, sym, ap, ◌∙◌, append_assoc, append-nil, subst, arith, rules, cond, nat_le}
+use Rattle.std.proofs.Common.{◌≡◌, ℕ, zero, suc, ◌≤◌, Bool, true, false, ◌&&◌, List, [], ◌∷◌, ◌++◌, max, length, Option, Some, None, refl, sym, ap, ◌∙◌, append_assoc, append-nil, subst, arith, rules, cond, nat_le}
 use Rattle.std.proofs.lemmas.Bool.{leb-true}
 use Rattle.c_lex.specs.declared.token.Token.{Token}
 use Rattle.c_lex.specs.declared.token.TokenKind.{TokenKind}
@@ -12,18 +12,15 @@ use Rattle.c_tree.specs.declared.expression.Expr.{Expr}
 use Rattle.c_tree.specs.declared.expression.ExprKind.{ExprKind, the_lemmas}
 use Rattle.c_tree.specs.declared.expression.ExprKind.TheVariants as k
 use Rattle.c_tree.specs.declared.expression.Typename.{Typename}
-use Rattle.c_tree.specs.Measure.{all, expr_height, expr_measure, expr_kind_measure, typename_measure}
+use Rattle.c_tree.specs.Measure.{all, expr_height, expr_kind_measure, typename_measure}
 use Rattle.c_tree.proofs.ExprMeasures as measure
 use Rattle.c_parse.specs.declared.wanted.Wanted.TheVariants as want
-use Rattle.c_parse.specs.Expected.{fits}
 use Rattle.c_parse.specs.Ranks.{assign_rank, conditional_rank, or_rank, cast_rank, unary_rank, postfix_rank, rank, rank_of}
 use Rattle.c_parse.specs.Tables.{Prefix, prefix, Joint, joint}
 use Rattle.c_parse.specs.TypeWords.{Tokens, line_at, Specified, Stars}
 use Rattle.c_parse.specs.Grammar.{node, typename, Spells, begun, gone_on, Begins, name, number, character, paren, cast, prefixed, sizeof_expr, sizeof_type, GoesOn, joined, conditional, index, call, member, arrow, increment, decrement, Arguments, none, some, Listed, last, further, NamesType, names, Bounds, no_bound, a_bound}
-use Rattle.c_parse.specs.Steps.{Parser, Outcome, and_then, pure}
-use Rattle.c_parse.specs.TypeReading as types
+use Rattle.c_parse.specs.Steps.{Parser, pure}
 use Rattle.c_parse.specs.Reading as r
-use Rattle.c_parse.proofs.Fitting.{fits_is}
 use Rattle.c_parse.proofs.RankOf as ranks
 use Rattle.c_parse.proofs.Operators.{IsJoint, no_joint, is_joint, are_joints, IsPrefix, no_prefix, is_prefix, are_prefixes}
 use Rattle.c_parse.proofs.TypeSound.{spec_sound, all_stars_sound}

@@ -1,5 +1,5 @@
 -- The statements that stand there are read.
-use Rattle.std.proofs.Common.{◌≡◌, ℕ, zero, suc, ◌+◌, ◌<◌, ◌≤◌, Bool, true, false, not, ◌&&◌, List, [], ◌∷◌, map, max, length, Option, Some, None, refl, sym, ap, ◌∙◌, arith, codes, bytes_eq}
+use Rattle.std.proofs.Common.{◌≡◌, ℕ, zero, suc, ◌<◌, ◌≤◌, Bool, true, false, List, [], ◌∷◌, max, length, Option, Some, None, refl, ap, ◌∙◌, arith, codes}
 use Rattle.std.proofs.lemmas.Bool.{le-leb}
 use Rattle.c_lex.specs.declared.token.Token.{Token}
 use Rattle.c_lex.specs.declared.token.TokenKind.{TokenKind}
@@ -23,21 +23,19 @@ use Rattle.c_tree.specs.declared.statements.Group.{Group}
 use Rattle.c_tree.specs.Measure.{all, optional, expr_height, tname_measure, label_measure, first_measure, statement_measure, statement_kind_measure, block_item_measure, compound_measure, group_measure}
 use Rattle.c_tree.proofs.StatementMeasures as measure
 use Rattle.c_parse.specs.declared.wanted.Wanted.TheVariants as want
-use Rattle.c_parse.specs.Expected.{fits}
 use Rattle.c_parse.specs.Ranks.{assign_rank, conditional_rank, unary_rank, rank}
-use Rattle.c_parse.specs.TypeWords.{Tokens, line_at}
+use Rattle.c_parse.specs.TypeWords.{Tokens}
 use Rattle.c_parse.specs.Grammar.{Spells}
 use Rattle.c_parse.specs.Repeats.{Commas, Many, no_more, one_more}
-use Rattle.c_parse.specs.Declarations.{Lasts, Declaring, declaring}
-use Rattle.c_parse.specs.Statements.{compound, group, NoElse, Given, absent, given, Tested, tested, Names, plain, indexed, Labelled, case_of, default, Firsts, by_expr, by_declaration, States, states, Forms, a_compound, expression, if_alone, if_else, while_do, do_while, for_do, switch_on, break_out, continue_on, return_with, stamped, timely_alone, timely_else, expires, Timed, timed, Composes, composes, Items, no_item, an_item, IsItem, a_declaration, a_statement, Groups, no_group, a_group, IsGroup, is_group, Run, no_statement, next_statement}
-use Rattle.c_parse.specs.Steps.{Parser, Outcome, and_then, take_if}
+use Rattle.c_parse.specs.Declarations.{Declaring, declaring}
+use Rattle.c_parse.specs.Statements.{compound, NoElse, Given, absent, given, Tested, tested, Names, plain, indexed, Labelled, case_of, default, Firsts, by_expr, by_declaration, States, states, Forms, a_compound, expression, if_alone, if_else, while_do, do_while, for_do, switch_on, break_out, continue_on, return_with, stamped, timely_alone, timely_else, expires, Timed, timed, Composes, composes, Items, no_item, an_item, IsItem, a_declaration, a_statement, Groups, no_group, a_group, IsGroup, is_group, Run, no_statement, next_statement}
+use Rattle.c_parse.specs.Steps.{Parser, take_if}
 use Rattle.c_parse.specs.TypeReading.{names_type}
 use Rattle.c_parse.specs.Reading as e
 use Rattle.c_parse.specs.Repeats as lists
 use Rattle.c_parse.specs.DeclarationReading as decl
 use Rattle.c_parse.specs.StatementReading as r
 use Rattle.c_parse.proofs.Fitting.{it_fits, fits_not}
-use Rattle.c_parse.proofs.Texts.{text_same}
 use Rattle.c_parse.proofs.RankOf.{rank_high}
 use Rattle.c_parse.proofs.Repeated.{commas_again, commas_shorter, Apart, at_end, apart, Anywhere, many_apart, many_again, many_shorter}
 use Rattle.c_parse.proofs.TypeComplete.{spec_start}

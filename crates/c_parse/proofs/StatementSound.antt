@@ -1,5 +1,5 @@
 -- The statements that are read stand there.
-use Rattle.std.proofs.Common.{◌≡◌, ℕ, zero, suc, ◌≤◌, Bool, true, false, List, [], ◌∷◌, map, max, length, Option, Some, None, refl, arith, rules, cond, codes, bytes_eq, nat_le, ◌∙◌, ap}
+use Rattle.std.proofs.Common.{◌≡◌, ℕ, zero, suc, ◌≤◌, Bool, true, false, List, [], ◌∷◌, max, Option, Some, None, refl, arith, rules, cond, codes, bytes_eq, nat_le, ◌∙◌, ap}
 use Rattle.std.proofs.lemmas.Bool.{leb-true}
 use Rattle.c_lex.specs.declared.token.Token.{Token}
 use Rattle.c_lex.specs.declared.token.TokenKind.{TokenKind}
@@ -10,7 +10,6 @@ use Rattle.c_lex.specs.declared.token.Mark.TheVariants as m
 use Rattle.c_lex.specs.declared.token.Note.TheVariants as note
 use Rattle.c_tree.specs.declared.expression.Expr.{Expr}
 use Rattle.c_tree.specs.declared.declarations.Duration.{Duration}
-use Rattle.c_tree.specs.declared.declarations.Declaration.{Declaration}
 use Rattle.c_tree.specs.declared.statements.Tname.{Tname}
 use Rattle.c_tree.specs.declared.statements.Label.{Label}
 use Rattle.c_tree.specs.declared.statements.First.{First}
@@ -22,28 +21,25 @@ use Rattle.c_tree.specs.declared.statements.StatementKind.TheVariants as k
 use Rattle.c_tree.specs.declared.statements.BlockItem.{BlockItem}
 use Rattle.c_tree.specs.declared.statements.Compound.{Compound}
 use Rattle.c_tree.specs.declared.statements.Group.{Group}
-use Rattle.c_tree.specs.Measure.{all, optional, expr_height, expr_measure, tname_measure, label_measure, first_measure, declaration_measure, statement_measure, statement_kind_measure, block_item_measure, compound_measure, group_measure}
+use Rattle.c_tree.specs.Measure.{all, optional, expr_height, tname_measure, label_measure, first_measure, statement_measure, statement_kind_measure, block_item_measure, compound_measure, group_measure}
 use Rattle.c_tree.proofs.StatementMeasures as measure
-use Rattle.c_parse.specs.declared.wanted.Wanted.{Wanted}
 use Rattle.c_parse.specs.declared.wanted.Wanted.TheVariants as want
-use Rattle.c_parse.specs.Expected.{fits, kind_of}
+use Rattle.c_parse.specs.Expected.{fits}
 use Rattle.c_parse.specs.Ranks.{assign_rank, conditional_rank, unary_rank, rank}
-use Rattle.c_parse.specs.TypeWords.{Tokens, line_at}
-use Rattle.c_parse.specs.Grammar.{Spells}
+use Rattle.c_parse.specs.TypeWords.{Tokens}
 use Rattle.c_parse.specs.Repeats.{Commas, Many, no_more, one_more}
-use Rattle.c_parse.specs.Declarations.{Lasts, Declaring}
+use Rattle.c_parse.specs.Declarations.{Lasts}
 use Rattle.c_parse.specs.Statements.{compound, group, NoElse, Given, absent, given, Tested, tested, Names, plain, indexed, Labelled, case_of, default, Firsts, by_expr, by_declaration, States, states, Forms, a_compound, expression, if_alone, if_else, while_do, do_while, for_do, switch_on, break_out, continue_on, return_with, stamped, timely_alone, timely_else, expires, Timed, timed, Composes, composes, Items, no_item, an_item, IsItem, a_declaration, a_statement, Groups, no_group, a_group, IsGroup, is_group, Run, no_statement, next_statement}
-use Rattle.c_parse.specs.Steps.{Parser, Outcome, and_then, take_if, expect}
+use Rattle.c_parse.specs.Steps.{Parser, take_if}
 use Rattle.c_parse.specs.Reading as e
-use Rattle.c_parse.specs.Repeats as lists
 use Rattle.c_parse.specs.DeclarationReading as decl
 use Rattle.c_parse.specs.StatementReading as r
 use Rattle.c_parse.proofs.Fitting.{fits_is}
 use Rattle.c_parse.proofs.Texts.{text_is}
 use Rattle.c_parse.proofs.Repeated.{commas_weaken, commas_low, commas_sound, many_weaken, many_low, many_sound}
 use Rattle.c_parse.proofs.Sound.{Reads, expr_sound}
-use Rattle.c_parse.proofs.DeclarationSound.{Declared, declaration_sound, duration_sound}
-use Rattle.c_parse.proofs.AfterSteps.{After, nothing, just, after_then, after_if, after_branch, weaken, Found, found_at, after_expect, Worded, worded, after_word}
+use Rattle.c_parse.proofs.DeclarationSound.{declaration_sound, duration_sound}
+use Rattle.c_parse.proofs.AfterSteps.{After, nothing, just, after_then, after_if, after_branch, Found, found_at, after_expect, Worded, worded, after_word}
 
 -- ---- small parts
 

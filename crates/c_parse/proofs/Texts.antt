@@ -1,5 +1,5 @@
 -- The test on two texts.
-use Rattle.std.proofs.Common.{◌≡◌, ℕ, true, false, List, bytes_eq, rules}
+use Rattle.std.proofs.Common.{◌≡◌, ℕ, true, List, bytes_eq, rules}
 use Rattle.std.proofs.lemmas.Slice.Eq.{bytes_eq-Decides}
 
 pub text_is : (xs ys : List ℕ) → bytes_eq xs ys ≡ true → xs ≡ ys

@@ -1,8 +1,7 @@
 -- The words of a type that stand there are read.
 use Rattle.std.proofs.Common.{◌≡◌, ℕ, zero, suc, ◌+◌, ◌<◌, ◌≤◌, Bool, true, false, List, [], ◌∷◌, ◌++◌, length, Option, Some, None, refl, sym, ap, ◌∙◌, append_assoc, append-nil, arith}
-use Rattle.c_lex.specs.declared.token.Token.{Token}
 use Rattle.c_lex.specs.declared.token.TokenKind.{TokenKind}
-use Rattle.c_lex.specs.declared.token.TokenKind.TheVariants.{Keyword, Mark}
+use Rattle.c_lex.specs.declared.token.TokenKind.TheVariants.{Keyword}
 use Rattle.c_lex.specs.declared.token.Keyword.{Keyword as AKeyword}
 use Rattle.c_lex.specs.declared.token.Keyword.TheVariants as w
 use Rattle.c_lex.specs.declared.token.Mark.TheVariants as m
@@ -14,7 +13,7 @@ use Rattle.c_tree.specs.declared.qualified.Base.TheVariants as base
 use Rattle.c_tree.specs.declared.qualified.Spec.{Spec}
 use Rattle.c_parse.specs.declared.wanted.Wanted.TheVariants as want
 use Rattle.c_parse.specs.TypeWords.{Tokens, qual_of, Quals, no_qual, a_qual, Said, said, unsaid, Signs, no_sign, signed, unsigned, Based, void, char, unsigned_char, struct, int, signed_alone, unsigned_int, short, Specified, specified, Stars, no_star, a_star}
-use Rattle.c_parse.specs.Steps.{Parser, and_then, take_if}
+use Rattle.c_parse.specs.Steps.{take_if}
 use Rattle.c_parse.specs.TypeReading as r
 use Rattle.c_parse.specs.TypeReading.{names_type}
 use Rattle.c_parse.specs.Reading.{type_next}

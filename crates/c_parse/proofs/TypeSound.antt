@@ -1,20 +1,16 @@
 -- The words of a type that are read are those that stand there.
-use Rattle.std.proofs.Common.{◌≡◌, ℕ, zero, suc, Bool, true, false, List, [], ◌∷◌, ◌++◌, length, Option, Some, None, refl, sym, ap, ◌∙◌, append_assoc, append-nil, subst}
+use Rattle.std.proofs.Common.{◌≡◌, ℕ, zero, suc, Bool, true, List, [], ◌∷◌, ◌++◌, length, Option, Some, None, refl, sym, ◌∙◌, append_assoc, append-nil, subst}
 use Rattle.c_lex.specs.declared.token.Token.{Token}
 use Rattle.c_lex.specs.declared.token.TokenKind.{TokenKind}
-use Rattle.c_lex.specs.declared.token.TokenKind.TheVariants.{Keyword, Mark}
+use Rattle.c_lex.specs.declared.token.TokenKind.TheVariants.{Keyword}
 use Rattle.c_lex.specs.declared.token.Keyword.{Keyword as AKeyword}
 use Rattle.c_lex.specs.declared.token.Keyword.TheVariants as w
 use Rattle.c_lex.specs.declared.token.Mark.TheVariants as m
 use Rattle.c_tree.specs.declared.qualified.Qual.{Qual}
 use Rattle.c_tree.specs.declared.qualified.Sign.{Sign}
-use Rattle.c_tree.specs.declared.qualified.Sign.TheVariants as sign
-use Rattle.c_tree.specs.declared.qualified.Base.{Base}
 use Rattle.c_tree.specs.declared.qualified.Base.TheVariants as base
-use Rattle.c_tree.specs.declared.qualified.Spec.{Spec}
 use Rattle.c_parse.specs.declared.wanted.Wanted.TheVariants as want
 use Rattle.c_parse.specs.TypeWords.{Tokens, qual_of, Quals, no_qual, a_qual, Said, said, unsaid, Signs, no_sign, signed, unsigned, Based, void, char, unsigned_char, struct, int, signed_alone, unsigned_int, short, Specified, specified, Stars, no_star, a_star}
-use Rattle.c_parse.specs.Steps.{Parser, Outcome, and_then}
 use Rattle.c_parse.specs.TypeReading as r
 use Rattle.c_parse.proofs.AfterSteps.{After, nothing, just, after_then, after_branch, weaken, Found, found_at, Taken, taken, left, after_take, Worded, worded, after_word}
 

@@ -4,7 +4,7 @@ use Rattle.c_lex.specs.declared.token.Token.{Token}
 use Rattle.c_lex.specs.declared.token.Mark.TheVariants as m
 use Rattle.c_tree.specs.declared.qualified.Qual.{Qual}
 use Rattle.c_parse.specs.TypeWords.{Tokens, qual_of}
-use Rattle.c_parse.specs.Steps.{Parser, and_then, pure, eat}
+use Rattle.c_parse.specs.Steps.{and_then, pure, eat}
 use Rattle.c_parse.specs.TypeReading.{quals, stars, all_stars}
 
 pub quals_more : (found : List Qual) (t : Token) (ts : Tokens) (q : Qual) → qual_of t.kind ≡ Some q → quals found (t ∷ ts) ≡ quals (found ++ q ∷ []) ts

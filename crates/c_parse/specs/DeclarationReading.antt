@@ -1,7 +1,7 @@
 -- How declarations are read.
 use Rattle.std.specs.Prelude.{ℕ, zero, suc, Bool, true, false, if◌then◌else◌, List, [], ◌∷◌, ◌++◌, length, Option, Some, None, codes, bytes_eq}
 use Rattle.c_lex.specs.declared.token.TokenKind.{TokenKind}
-use Rattle.c_lex.specs.declared.token.TokenKind.TheVariants.{Word, Number, Mark}
+use Rattle.c_lex.specs.declared.token.TokenKind.TheVariants.{Number}
 use Rattle.c_lex.specs.declared.token.Mark.{Mark as AMark}
 use Rattle.c_lex.specs.declared.token.Mark.TheVariants as m
 use Rattle.c_tree.specs.declared.qualified.Qual.{Qual}
@@ -10,7 +10,6 @@ use Rattle.c_tree.specs.declared.expression.Expr.{Expr}
 use Rattle.c_tree.specs.declared.declarations.TimeUnit.{TimeUnit}
 use Rattle.c_tree.specs.declared.declarations.TimeUnit.TheVariants as unit
 use Rattle.c_tree.specs.declared.declarations.Duration.{Duration}
-use Rattle.c_tree.specs.declared.declarations.Declr.{Declr}
 use Rattle.c_tree.specs.declared.declarations.Initial.{Initial}
 use Rattle.c_tree.specs.declared.declarations.Initial.TheVariants as initial
 use Rattle.c_tree.specs.declared.declarations.Init.{Init}
@@ -19,10 +18,10 @@ use Rattle.c_parse.specs.declared.wanted.Wanted.TheVariants as want
 use Rattle.c_parse.specs.Expected.{fits}
 use Rattle.c_parse.specs.Ranks.{assign_rank}
 use Rattle.c_parse.specs.TypeWords.{Tokens, line_at}
-use Rattle.c_parse.specs.Steps.{Parser, Outcome, and_then, ◌>>=◌, ◌>>◌, pure, refuse, eat, closing, word}
+use Rattle.c_parse.specs.Steps.{Parser, and_then, ◌>>=◌, ◌>>◌, pure, refuse, eat, closing, word}
 use Rattle.c_parse.specs.TypeReading.{spec, all_stars}
 use Rattle.c_parse.specs.Reading as e
-use Rattle.c_parse.specs.Repeats.{all_commas, more_commas}
+use Rattle.c_parse.specs.Repeats.{more_commas}
 
 -- ---- durations
 

@@ -1,5 +1,5 @@
 -- How a whole source is read.
-use Rattle.std.specs.Prelude.{ℕ, zero, suc, Bool, true, false, ◌&&◌, if◌then◌else◌, List, [], ◌∷◌, Option, Some, None}
+use Rattle.std.specs.Prelude.{ℕ, suc, Bool, true, false, ◌&&◌, if◌then◌else◌, List, [], ◌∷◌, Option, Some, None}
 use Rattle.c_lex.specs.declared.token.TokenKind.{TokenKind}
 use Rattle.c_lex.specs.declared.token.TokenKind.TheVariants.{Word}
 use Rattle.c_lex.specs.declared.token.Keyword.TheVariants as w
@@ -16,7 +16,6 @@ use Rattle.c_tree.specs.declared.unit.Struct.{Struct}
 use Rattle.c_tree.specs.declared.unit.Param.{Param}
 use Rattle.c_tree.specs.declared.unit.Params.{Params}
 use Rattle.c_tree.specs.declared.unit.Params.TheVariants as params
-use Rattle.c_tree.specs.declared.unit.Function.{Function}
 use Rattle.c_tree.specs.declared.unit.External.{External}
 use Rattle.c_tree.specs.declared.unit.External.TheVariants as external
 use Rattle.c_tree.specs.declared.unit.Tree.{Tree}
@@ -24,7 +23,7 @@ use Rattle.c_parse.specs.declared.wanted.Wanted.TheVariants as want
 use Rattle.c_parse.specs.Expected.{fits}
 use Rattle.c_parse.specs.Ranks.{conditional_rank}
 use Rattle.c_parse.specs.TypeWords.{Tokens, line_at}
-use Rattle.c_parse.specs.Steps.{Parser, Outcome, and_then, ◌>>=◌, ◌>>◌, pure, refuse, expect, eat, eat_word, closing, word}
+use Rattle.c_parse.specs.Steps.{Parser, Outcome, ◌>>=◌, ◌>>◌, pure, expect, eat, eat_word, closing, word}
 use Rattle.c_parse.specs.TypeReading.{spec, all_stars}
 use Rattle.c_parse.specs.Reading as e
 use Rattle.c_parse.specs.Repeats.{all_commas, all_many}

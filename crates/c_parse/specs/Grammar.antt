@@ -1,6 +1,6 @@
 -- Which tokens spell an expression: a case for each rule of the grammar. `Spells e ts rest` says that e is what stands in
 -- ts before rest. A rule's name in the grammar is a least rank here.
-use Rattle.std.specs.Prelude.{◌≡◌, ℕ, ◌≤◌, Bool, List, [], ◌∷◌, Option, Some, None}
+use Rattle.std.specs.Prelude.{◌≡◌, ℕ, ◌≤◌, Bool, List, [], ◌∷◌, Some}
 use Rattle.c_lex.specs.declared.token.Token.{Token}
 use Rattle.c_lex.specs.declared.token.TokenKind.TheVariants.{Word, Number, Char, Keyword, Mark}
 use Rattle.c_lex.specs.declared.token.Keyword.TheVariants as w

@@ -17,3 +17,4 @@ pub mod Externals
 pub mod ExternalReading
 pub mod Answered
 pub mod ExpressionReading
+pub mod NestsStatement

@@ -1,5 +1,5 @@
 -- What a function of the parser ensures, and a function value that reads what stands inside, to a depth.
-use Rattle.std.specs.Prelude.{◌≡◌, ℕ, Bool, Option, Some, None, Result, Ok, Err}
+use Rattle.std.specs.Prelude.{◌≡◌, ℕ, Some, None, Result, Ok, Err}
 use Rattle.std.specs.declared.alloc.Global.{Global}
 use denote.Ref.{MutBor}
 use Rattle.c_tree.specs.declared.expression.Expr.{Expr}

@@ -1,14 +1,11 @@
 -- The tables of operators, as the program names their rows.
-use Rattle.std.specs.Prelude.{ℕ, ◌+◌, Option, Some, None}
-use Rattle.base16.specs.declared.operator.UnaryOp.{UnaryOp}
-use Rattle.c_tree.specs.declared.expression.Expr.{Expr}
-use Rattle.c_tree.specs.declared.expression.ExprKind.{ExprKind}
+use Rattle.std.specs.Prelude.{ℕ, ◌+◌, Option, Some}
 use Rattle.c_tree.specs.declared.expression.ExprKind.TheVariants as k
 use Rattle.c_parse.specs.declared.tables.Infix.{Infix}
 use Rattle.c_parse.specs.declared.tables.Infix.TheVariants as between
 use Rattle.c_parse.specs.declared.tables.Before.{Before}
 use Rattle.c_parse.specs.declared.tables.Before.TheVariants as before
-use Rattle.c_parse.specs.Ranks.{comma_rank, assign_rank, conditional_rank, or_rank, and_rank, cast_rank, unary_rank, level}
+use Rattle.c_parse.specs.Ranks.{comma_rank, assign_rank, or_rank, and_rank, cast_rank, unary_rank, level}
 use Rattle.c_parse.specs.Tables.{Joint, leftward, binary, assigning, Prefix}
 
 abbrev pub joint_of : Infix → Option Joint

@@ -1,10 +1,9 @@
 -- What the parser answers for an expression: the expression in front and the tokens behind it.
-use Rattle.std.specs.Prelude.{ℕ, zero, suc, Bool, true, false, ◌&&◌, if◌then◌else◌, nat_le, List, [], ◌∷◌, ◌++◌, length, Option, Some, None}
+use Rattle.std.specs.Prelude.{ℕ, zero, suc, Bool, false, ◌&&◌, if◌then◌else◌, nat_le, List, [], ◌∷◌, ◌++◌, length, Option, Some, None}
 use Rattle.c_lex.specs.declared.token.TokenKind.{TokenKind}
 use Rattle.c_lex.specs.declared.token.TokenKind.TheVariants.{Word, Number, Char, Keyword, Mark}
 use Rattle.c_lex.specs.declared.token.Keyword.TheVariants as w
 use Rattle.c_lex.specs.declared.token.Mark.TheVariants as m
-use Rattle.c_tree.specs.declared.qualified.Spec.{Spec}
 use Rattle.c_tree.specs.declared.expression.Expr.{Expr}
 use Rattle.c_tree.specs.declared.expression.ExprKind.{ExprKind}
 use Rattle.c_tree.specs.declared.expression.ExprKind.TheVariants as k
@@ -16,7 +15,7 @@ use Rattle.c_parse.specs.Ranks.{comma_rank, assign_rank, conditional_rank, or_ra
 use Rattle.c_parse.specs.Tables.{Prefix, prefix, Joint, joint}
 use Rattle.c_parse.specs.TypeWords.{Tokens, line_at}
 use Rattle.c_parse.specs.Grammar.{typename}
-use Rattle.c_parse.specs.Steps.{Parser, Outcome, and_then, ◌>>=◌, ◌>>◌, pure, refuse, eat, closing, word}
+use Rattle.c_parse.specs.Steps.{Parser, ◌>>=◌, ◌>>◌, pure, refuse, eat, closing, word}
 use Rattle.c_parse.specs.TypeReading.{spec, all_stars, names_type}
 
 -- ---- how tightly the next token binds what stands before it, and how tightly that has to bind; 0 if it does not go on

@@ -1,10 +1,10 @@
 -- Parts that repeat: with commas between, or one behind the other.
-use Rattle.std.specs.Prelude.{◌≡◌, ℕ, zero, suc, Bool, true, false, if◌then◌else◌, List, [], ◌∷◌, ◌++◌, length, Option, Some, None}
+use Rattle.std.specs.Prelude.{◌≡◌, ℕ, zero, suc, Bool, if◌then◌else◌, List, [], ◌∷◌, ◌++◌, length, Some}
 use Rattle.c_lex.specs.declared.token.Token.{Token}
 use Rattle.c_lex.specs.declared.token.TokenKind.TheVariants.{Mark}
 use Rattle.c_lex.specs.declared.token.Mark.TheVariants as m
 use Rattle.c_parse.specs.TypeWords.{Tokens}
-use Rattle.c_parse.specs.Steps.{Parser, Outcome, and_then, ◌>>=◌, ◌>>◌, pure, refuse, eat}
+use Rattle.c_parse.specs.Steps.{Parser, ◌>>=◌, pure, refuse, eat}
 
 -- one or more, with commas between
 pub data Commas {A : Type 0} (One : A → Tokens → Tokens → Type 0) : List A → Tokens → Tokens → Type 0 where

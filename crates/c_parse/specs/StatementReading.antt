@@ -1,5 +1,5 @@
 -- How statements are read. What stands in a statement is of height d at most.
-use Rattle.std.specs.Prelude.{ℕ, zero, suc, Bool, true, false, not, ◌&&◌, ◌||◌, if◌then◌else◌, nat_le, List, [], ◌∷◌, Option, Some, None, codes, bytes_eq}
+use Rattle.std.specs.Prelude.{ℕ, zero, suc, Bool, true, false, not, ◌&&◌, if◌then◌else◌, nat_le, List, [], ◌∷◌, Option, Some, None, codes, bytes_eq}
 use Rattle.c_lex.specs.declared.token.TokenKind.{TokenKind}
 use Rattle.c_lex.specs.declared.token.TokenKind.TheVariants.{Keyword, Mark, Note}
 use Rattle.c_lex.specs.declared.token.Keyword.TheVariants as w
@@ -23,7 +23,7 @@ use Rattle.c_tree.specs.declared.statements.Group.{Group}
 use Rattle.c_parse.specs.declared.wanted.Wanted.TheVariants as want
 use Rattle.c_parse.specs.Ranks.{comma_rank, assign_rank, conditional_rank, unary_rank, rank}
 use Rattle.c_parse.specs.TypeWords.{Tokens, line_at}
-use Rattle.c_parse.specs.Steps.{Parser, Outcome, and_then, ◌>>=◌, ◌>>◌, pure, refuse, take_if, expect, eat, eat_word, closing, word}
+use Rattle.c_parse.specs.Steps.{Parser, and_then, ◌>>=◌, ◌>>◌, pure, refuse, take_if, expect, eat, eat_word, closing, word}
 use Rattle.c_parse.specs.Reading.{expr, type_next}
 use Rattle.c_parse.specs.Repeats.{all_commas, all_many}
 use Rattle.c_parse.specs.DeclarationReading.{mark_next, duration, declaration}

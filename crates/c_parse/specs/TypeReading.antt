@@ -10,8 +10,8 @@ use Rattle.c_tree.specs.declared.qualified.Sign.TheVariants as sign
 use Rattle.c_tree.specs.declared.qualified.Base.{Base}
 use Rattle.c_tree.specs.declared.qualified.Base.TheVariants as base
 use Rattle.c_tree.specs.declared.qualified.Spec.{Spec}
-use Rattle.c_parse.specs.Steps.{Parser, Outcome, and_then, ◌>>=◌, ◌>>◌, pure, refuse, eat, eat_word, word}
-use Rattle.c_parse.specs.TypeWords.{Tokens, qual_of}
+use Rattle.c_parse.specs.Steps.{Parser, Outcome, ◌>>=◌, pure, refuse, eat, eat_word, word}
+use Rattle.c_parse.specs.TypeWords.{qual_of}
 
 -- the qualifiers in front, all of them
 abbrev pub quals_by : (List Qual → Outcome (List Qual)) → Option Qual → List Qual → Parser (List Qual)

@@ -5,13 +5,17 @@ ghost use Rattle.c_parse.specs.TypeWords.{line_at};
 ghost use Rattle.c_parse.specs.Nests.{Reads, IsSyntax};
 ghost use Rattle.c_parse.specs.Reading as reading;
 ghost use Rattle.c_parse.specs.Steps as spec;
+ghost use Rattle.c_parse.specs.DeclarationReading as declaration;
+ghost use Rattle.c_parse.specs.StatementReading as statement;
+ghost use Rattle.c_parse.specs.Externals as outer;
+ghost use Rattle.c_parse.specs.ExternalReading as external;
 
 use crate::error::ParseErr;
 use crate::tables::{need, reach};
 use crate::types::names_type;
 use crate::wanted::{Wanted, fits};
 use base16::Name;
-use c_lex::{Mark, Token, TokenKind};
+use c_lex::{Keyword, Mark, Note, Token, TokenKind};
 use std::alloc::Global;
 use std::marker::Model;
 
@@ -43,10 +47,25 @@ impl<'a> Cursor<'a> {
         self.rest.len()
     }
 
+    /// How many tokens were taken, as far as a `u32` says.
+    pub fn taken(&self) -> u32 {
+        self.at
+    }
+
+    /// No tree goes on with the next token.
     pub fn refuse(&self) -> ParseErr
         ensures { IsSyntax result }
     {
         ParseErr::Syntax { token: self.at }
+    }
+
+    /// No tree goes on with the token that was taken last.
+    pub fn refuse_taken(&self) -> ParseErr
+        ensures { IsSyntax result }
+    {
+        ParseErr::Syntax {
+            token: self.at.saturating_sub(1),
+        }
     }
 
     /// The line of the first token.
@@ -90,6 +109,59 @@ impl<'a> Cursor<'a> {
                 fits(Wanted::Mark(Mark::LeftParen), &token.kind) && names_type(&next.kind)
             }
             _ => false,
+        }
+    }
+
+    /// Whether this mark comes next.
+    pub fn mark_next(&self, mark: Mark) -> bool
+        ensures { result ≡ declaration.mark_next mark self.now }
+    {
+        match self.rest {
+            [token, ..] => fits(Wanted::Mark(mark), &token.kind),
+            [] => false,
+        }
+    }
+
+    /// Whether something stands before the brace that closes.
+    pub fn unclosed(&self) -> bool
+        ensures { result ≡ statement.unclosed self.now }
+    {
+        !self.rest.is_empty() && !self.mark_next(Mark::RightBrace)
+    }
+
+    /// Whether `void` and the parenthesis that closes come next.
+    pub fn void_alone(&self) -> bool
+        ensures { result ≡ outer.void_alone self.now }
+    {
+        match self.rest {
+            [token, next, ..] => {
+                fits(Wanted::Keyword(Keyword::Void), &token.kind)
+                    && fits(Wanted::Mark(Mark::RightParen), &next.kind)
+            }
+            _ => false,
+        }
+    }
+
+    /// Whether a struct is defined here.
+    pub fn struct_next(&self) -> bool
+        ensures { result ≡ external.struct_next self.now }
+    {
+        match self.rest {
+            [token, _, next, ..] => {
+                fits(Wanted::Keyword(Keyword::Struct), &token.kind)
+                    && fits(Wanted::Mark(Mark::LeftBrace), &next.kind)
+            }
+            _ => false,
+        }
+    }
+
+    /// Whether the lifetime of a declaration comes next.
+    pub fn lifetime_next(&self) -> bool
+        ensures { result ≡ external.lifetime_next self.now }
+    {
+        match self.rest {
+            [token, ..] => fits(Wanted::Note(Note::ExpiresAfter), &token.kind),
+            [] => false,
         }
     }
 
@@ -142,7 +214,7 @@ impl<'a> Cursor<'a> {
         };
         match &token.kind {
             TokenKind::Word(name) => Ok(Name::new(alloc, name.bytes())?),
-            _ => Err(self.refuse()),
+            _ => Err(self.refuse_taken()),
         }
     }
 

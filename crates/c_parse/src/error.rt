@@ -8,7 +8,7 @@ use std::alloc::AllocError;
 #[derive(Clone, Copy, Debug, PartialEq, Eq)]
 pub enum ParseErr {
     /// No tree of an allowed height spells the tokens. The number is that of the first token, from 0, after which none
-    /// can go on.
+    /// can go on, or the number of tokens where they end too early; where a tree would be too high it may be a later one.
     Syntax { token: u32 },
     /// Memory ran out.
     NoMemory,

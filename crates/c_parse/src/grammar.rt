@@ -178,7 +178,7 @@ impl<F: Fn(Global, &mut Cursor<'_>, u16, u8) -> Result<Expr, ParseErr>> Grammar<
         ensures { Reads (spec.prefixed (spec.expr self.now.depth) (table.prefix kind.now) tokens.old) result tokens.new }
     {
         let Some(before) = before_of(kind) else {
-            return Err(tokens.refuse());
+            return Err(tokens.refuse_taken());
         };
         let of = Boxed::new(self.alloc, self.expr(tokens, operand(before))?)?;
         Ok(match before {
@@ -227,7 +227,7 @@ impl<F: Fn(Global, &mut Cursor<'_>, u16, u8) -> Result<Expr, ParseErr>> Grammar<
         ensures { Reads (spec.joined (spec.expr self.now.depth) left (table.joint kind.now) tokens.old) result tokens.new }
     {
         let Some(op) = infix_of(kind) else {
-            return Err(tokens.refuse());
+            return Err(tokens.refuse_taken());
         };
         let left = Boxed::new(self.alloc, left)?;
         let right = Boxed::new(self.alloc, self.expr(tokens, right(op))?)?;
@@ -326,10 +326,12 @@ impl<F: Fn(Global, &mut Cursor<'_>, u16, u8) -> Result<Expr, ParseErr>> Grammar<
         requires { Nests self.now.depth (F.pre self.now.expr) (F.post self.now.expr) }
         ensures { Reads (spec.grow (spec.expr self.now.depth) (self.now.depth + 1) line left tokens.old) result tokens.new }
     {
+        let at = tokens.taken();
         let kind = self.go_on(tokens, left)?;
         let whole = Expr { kind, line };
         if expr_height(&whole) > u32::from(self.depth) + 1 {
-            return Err(tokens.refuse());
+            // What stands on the left is as high as allowed already.
+            return Err(ParseErr::Syntax { token: at });
         }
         Ok(whole)
     }
@@ -359,10 +361,14 @@ impl<F: Fn(Global, &mut Cursor<'_>, u16, u8) -> Result<Expr, ParseErr>> Grammar<
         requires { Nests self.now.depth (F.pre self.now.expr) (F.post self.now.expr) }
         ensures { Reads (spec.first (spec.expr self.now.depth) least line tokens.old) result tokens.new }
     {
+        let at = tokens.taken();
         let kind = self.begin(tokens)?;
         let whole = Expr { kind, line };
         if rank(&whole) < least {
-            return Err(tokens.refuse());
+            // A cast stands where none can: its type is what goes wrong, behind the parenthesis.
+            return Err(ParseErr::Syntax {
+                token: at.saturating_add(1),
+            });
         }
         Ok(whole)
     }
@@ -407,4 +413,11 @@ pub fn expr(alloc: Global, tokens: &mut Cursor<'_>, depth: u16, least: u8) -> Re
         expr,
     }
     .tree(tokens, least)
+}
+
+/// The sizes in pairs of brackets, any number of them.
+pub fn bounds(alloc: Global, tokens: &mut Cursor<'_>, depth: u16) -> Result<Items<Expr>, ParseErr>
+    ensures { Reads (spec.all_bounds (spec.expr depth) tokens.old) result tokens.new }
+{
+    Grammar { alloc, depth, expr }.bounds(tokens)
 }

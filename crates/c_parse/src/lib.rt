@@ -1,10 +1,17 @@
 //! The parser: which tree a list of tokens spells.
 #![tactic(auto)]
 
+mod compounds;
 mod cursor;
+mod declarations;
 mod error;
+mod externals;
+mod functions;
 mod grammar;
 mod laws;
+mod simple_statements;
+mod statement_parts;
+mod statements;
 mod tables;
 mod types;
 mod wanted;
@@ -12,7 +19,7 @@ mod whole;
 
 pub use error::ParseErr;
 pub use laws::one_tree_for_each_list;
-pub use whole::parse_expression;
+pub use whole::{parse, parse_expression};
 
 #[cfg(test)]
 mod tests;

@@ -113,7 +113,7 @@ fn base(alloc: Global, tokens: &mut Cursor<'_>) -> Result<Base, ParseErr>
         TokenKind::Keyword(Keyword::Signed) => Ok(signed_rest(tokens)),
         TokenKind::Keyword(Keyword::Unsigned) => Ok(unsigned_rest(tokens)),
         TokenKind::Keyword(Keyword::Short) => Ok(short_rest(tokens, None)),
-        _ => Err(tokens.refuse()),
+        _ => Err(tokens.refuse_taken()),
     }
 }
 
