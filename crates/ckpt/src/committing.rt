@@ -126,7 +126,7 @@ fn fill<W: World>(
     requires segment { slice_index state.now 0 < 32 }
     ensures ticks { Takes 153 result (W.state world.old) (W.state world.new) }
     ensures filled { OnOk result (Fills slot regs.now.r state.now 153 (words_of fram.old.words) (words_of fram.new.words)) }
-    ensures off { Fills slot regs.now.r state.now 0 (words_of fram.old.words) (words_of fram.new.words) }
+    ensures kept { Fills slot regs.now.r state.now 0 (words_of fram.old.words) (words_of fram.new.words) }
     ensures poked { fram.new.poked ≡ fram.old.poked }
 {
     for index in 0..SLOT_WORDS {

@@ -9,10 +9,10 @@ use Rattle.ckpt.proofs.SlotLemmas.{always_err, either, count_step, gate_step}
 use Rattle.ckpt.proofs.committing.switch.Goals as goal
 
 pub returns-in_err-fill-clause-off : goal.returns-in_err-fill-clause-off
-returns-in_err-fill-clause-off g c = always_err c.from_residual.result c.fill.ensures.off.recovered
+returns-in_err-fill-clause-off g c = always_err c.from_residual.result c.fill.ensures.kept.recovered
 
 pub returns-in_err-write-clause-off : goal.returns-in_err-write-clause-off
-returns-in_err-write-clause-off g c = always_err c.from_residual-in_err-write.result (ap (λ ws. recovered (words_of ws)) c.in_err-write.ensures.kept ∙ c.fill.ensures.off.recovered)
+returns-in_err-write-clause-off g c = always_err c.from_residual-in_err-write.result (ap (λ ws. recovered (words_of ws)) c.in_err-write.ensures.kept ∙ c.fill.ensures.kept.recovered)
 
 pub returns-clause-committed : goal.returns-clause-committed
 returns-clause-committed g c =
