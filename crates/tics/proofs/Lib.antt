@@ -1,9 +1,6 @@
-pub mod BoolLaws
-pub mod ScanLaws
-pub mod ScanTurns
-pub mod NumberLaws
-pub mod ProgramLaws
-pub mod Turns
+pub mod PairedLaws
+pub mod PartLaws
+pub mod FormLaws
 pub mod RunLaws
 pub mod CommandLaws
 pub mod PrintLaws

@@ -1,9 +1,6 @@
-pub mod Words
-pub mod Layout
 pub mod Form
-pub mod Reading
+pub mod Source
 pub mod Run
 pub mod Report
 pub mod Command
 pub mod Outcome
-pub mod Refusal

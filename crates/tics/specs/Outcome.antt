@@ -1,16 +1,18 @@
 -- What a call of the program comes to.
-use Rattle.std.specs.Prelude.{◌≡◌, ◌≢◌, ℕ, ◌<◌, ◌≤◌, ◌⊎◌, List, [], ◌∷◌, ◌++◌, length, Option, Some, None, IsSomeAnd, MatchOption, Result, Ok, Err, codes}
+use Rattle.std.specs.Prelude.{◌≡◌, ◌≢◌, ℕ, ◌⊎◌, List, [], ◌∷◌, ◌++◌, Option, Some, None, IsSomeAnd, MatchOption, Result, Ok, Err, codes}
 use Rattle.edge.specs.Counts.{HasRisen}
 use Rattle.edge.specs.Told.{Drive, Appends, AppendsFront}
 use Rattle.edge.specs.declared.sink.SinkErr.{SinkErr}
 use Rattle.edge.specs.declared.sink.SinkErr.TheVariants.{Failed, NoMemory as SinkNoMemory}
 use Rattle.world.specs.declared.history.Record.{Record}
 use Rattle.tics.specs.declared.outcome.Outcome.{Outcome}
-use Rattle.tics.specs.declared.outcome.Outcome.TheVariants.{Done, Usage, ReadFault, WriteFault, NoMemory, Unsupported}
+use Rattle.tics.specs.declared.outcome.Outcome.TheVariants.{Done, Refused, Usage, ReadFault, WriteFault, NoMemory, Unsupported}
+use Rattle.tics.specs.declared.fault.SourceFault.{SourceFault}
 use Rattle.tics.specs.declared.source.Program.{Program}
-use Rattle.tics.specs.Form.{IsProgram, IsOfForm}
+use Rattle.tics.specs.Form.{IsProgram, IsOfForm, IsOther}
 use Rattle.tics.specs.Report.{report}
 use Rattle.tics.specs.Run.{history_of, symbols_of}
+use Rattle.tics.specs.Source.{IsRefused, refusal_text}
 
 -- ---- the texts
 abbrev pub usage_text : List ℕ
@@ -37,14 +39,18 @@ WhereTold files name P = MatchOption files (Unit {0}) (λ drive. IsSomeAnd (driv
 -- The source is this program, and the trace is the plain one.
 pub record Accepts (files : Option Drive) (command : List ℕ × List ℕ) (program : Program) : Type 0 where
   pub program_is : IsProgram program
-  pub source : WhereTold files command.0 (λ text. (length text ≤ 262144) × IsOfForm text program)
+  pub source : WhereTold files command.0 (λ text. IsOfForm text program)
   pub trace : WhereTold files command.1 (λ text. text ≡ plain_trace)
 
--- The source is too long or no program, or the trace is not the plain one.
+-- The source is refused for this reason.
+abbrev pub Refuses : Option Drive → List ℕ × List ℕ → SourceFault → Type 0
+Refuses files command reason = WhereTold files command.0 (λ text. IsRefused text reason)
+
+-- The source has a tree that is no program, or it is a program and the trace is not the plain one.
 abbrev pub IsUnsupported : Option Drive → List ℕ × List ℕ → Type 0
 IsUnsupported files command =
-    WhereTold files command.0 (λ text. (262144 < length text) ⊎ ((program : Program) → IsOfForm text program → ⊥))
-    ⊎ WhereTold files command.1 (λ text. text ≢ plain_trace)
+    WhereTold files command.0 IsOther
+    ⊎ ((program : Program) × WhereTold files command.0 (λ text. IsOfForm text program) × WhereTold files command.1 (λ text. text ≢ plain_trace))
 
 -- ---- a call
 -- What is seen of a call: the files and the command line before it, the counts of faults and the bytes put before and
@@ -69,6 +75,7 @@ pub record HasRun (files : Option Drive) (command : Option (List ℕ × List ℕ
 
 -- the texts that a call may have begun to print, each with its cause
 pub data IsText (files : Option Drive) (command : Option (List ℕ × List ℕ)) (faults faults_after : ℕ) (records : List Record) : List ℕ → Type 0 where
+  refused : (reason : SourceFault) → IsSomeAnd command (λ c. Refuses files c reason) → IsText files command faults faults_after records (refusal_text reason)
   usage : command ≡ None → IsText files command faults faults_after records usage_text
   fault : HasRisen faults faults_after → IsText files command faults faults_after records fault_text
   unsupported : IsSomeAnd command (λ c. IsUnsupported files c) → IsText files command faults faults_after records unsupported_text
@@ -92,6 +99,11 @@ pub record IsDone (seen : Seen) : Type 0 where
   pub program : Program
   pub run : HasRun seen.files seen.command seen.records_after program
   pub printed : Appends seen.bytes seen.bytes_after (report_of program)
+
+pub record IsSourceRefused (seen : Seen) (reason : SourceFault) : Type 0 where
+  pub cause : IsSomeAnd seen.command (λ c. Refuses seen.files c reason)
+  pub text : Appends seen.bytes seen.bytes_after (refusal_text reason)
+  pub book : seen.records_after ≡ seen.records
 
 pub record IsUsage (seen : Seen) : Type 0 where
   pub words : seen.command ≡ None
@@ -120,6 +132,7 @@ pub record IsNotSupported (seen : Seen) : Type 0 where
 
 abbrev pub Happened : Seen → Outcome → Type 0
 Happened seen Done = IsDone seen
+Happened seen (Refused reason) = IsSourceRefused seen reason
 Happened seen Usage = IsUsage seen
 Happened seen ReadFault = IsReadFault seen
 Happened seen WriteFault = IsWriteFault seen
@@ -134,6 +147,7 @@ said (Err SinkNoMemory) outcome = NoMemory
 
 abbrev pub status_of : Outcome → ℕ
 status_of Done = 0
+status_of (Refused reason) = 1
 status_of Usage = 2
 status_of ReadFault = 8
 status_of WriteFault = 9
@@ -142,4 +156,4 @@ status_of Unsupported = 13
 
 -- one of the statuses that a call may end with
 abbrev pub IsStatus : ℕ → Type 0
-IsStatus n = (n ≡ 0) ⊎ (n ≡ 2) ⊎ (n ≡ 8) ⊎ (n ≡ 9) ⊎ (n ≡ 10) ⊎ (n ≡ 13)
+IsStatus n = (n ≡ 0) ⊎ (n ≡ 1) ⊎ (n ≡ 2) ⊎ (n ≡ 8) ⊎ (n ≡ 9) ⊎ (n ≡ 10) ⊎ (n ≡ 13)

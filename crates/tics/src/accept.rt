@@ -1,11 +1,14 @@
-ghost use Rattle.std.specs.Prelude.{◌≡◌, ◌≢◌, ◌<◌, ◌≤◌, ◌⊎◌, length, Some, IfOk, OnOk, IsErrOf};
+ghost use Rattle.std.specs.Prelude.{◌≡◌, ◌≢◌, ◌≤◌, ◌⊎◌, Some, IfOk, OnOk, IsErrOf};
 ghost use Rattle.edge.specs.Counts.{HasRisen};
-ghost use Rattle.tics.specs.declared.source.Program.{Program};
-ghost use Rattle.tics.specs.Form.{IsProgram, IsOfForm};
-ghost use Rattle.tics.specs.Outcome.{WhereTold, Accepts, IsUnsupported, plain_trace};
+ghost use Rattle.tics.specs.declared.fault.SourceFault.{SourceFault as ASourceFault};
+ghost use Rattle.tics.specs.Form.{IsProgram, IsOfForm, IsOther};
+ghost use Rattle.tics.specs.Outcome.{WhereTold, Accepts, Refuses, IsUnsupported, plain_trace};
+ghost use Rattle.tics.specs.Source.{IsRefused};
 
-use crate::source::{Program, program_in};
-use base16::NoMemory;
+use crate::fault::SourceFault;
+use crate::form::program_in;
+use crate::front::FrontErr;
+use crate::source::Program;
 use edge::{FileErr, Files};
 use std::alloc::Global;
 
@@ -21,43 +24,21 @@ const PLAIN_TRACE: &[u8] = b"tics-trace 1\nrate 4000000\nperiod 4000000\ncycle 1
 /// Why a run does not come about.
 #[derive(Clone, Copy, Debug, PartialEq, Eq)]
 pub enum Refusal {
+    /// A read answered a fault.
     ReadFault,
+    /// The source has this fault.
+    Source(SourceFault),
+    /// The source or the trace is in no form that is built yet.
     Unsupported,
     NoMemory,
-}
-
-impl From<NoMemory> for Refusal {
-    ghost use Rattle.std.specs.Prelude.{◌≡◌};
-    ghost use Rattle.tics.specs.declared.accept.Refusal.TheVariants.{NoMemory};
-
-    ghost from_gives = { λ _ e. e ≡ NoMemory };
-
-    fn from(_error: base16::NoMemory) -> Refusal {
-        Refusal::NoMemory
-    }
-}
-
-impl From<FileErr> for Refusal {
-    ghost use Rattle.std.specs.Prelude.{◌≡◌};
-    ghost use Rattle.tics.specs.Refusal.{refusal_of};
-
-    ghost from_gives = { λ e r. r ≡ refusal_of e };
-
-    fn from(error: FileErr) -> Refusal {
-        match error {
-            FileErr::Failed => Refusal::ReadFault,
-            FileErr::TooBig => Refusal::Unsupported,
-            FileErr::NoMemory => Refusal::NoMemory,
-        }
-    }
 }
 
 /// The program of a source file.
 fn read_source<F: Files>(alloc: Global, files: &mut F, name: &str) -> Result<Program, Refusal>
     ensures form { IfOk result (λ program. IsProgram program) }
-    ensures told { IfOk result (λ program. WhereTold (F.contents files.old) name.now (λ text. (length text ≤ 262144) × IsOfForm text program)) }
-    ensures unsupported { IsErrOf result Refusal.Unsupported → WhereTold (F.contents files.old) name.now
-        (λ text. (262144 < length text) ⊎ ((program : Program) → IsOfForm text program → ⊥)) }
+    ensures told { IfOk result (λ program. WhereTold (F.contents files.old) name.now (λ text. IsOfForm text program)) }
+    ensures refused { (fault : ASourceFault) → IsErrOf result (Refusal.Source fault) → WhereTold (F.contents files.old) name.now (λ text. IsRefused text fault) }
+    ensures unsupported { IsErrOf result Refusal.Unsupported → WhereTold (F.contents files.old) name.now IsOther }
     ensures fault { IsErrOf result Refusal.ReadFault → HasRisen (F.faults files.old) (F.faults files.new) }
     ensures named { IsErrOf result Refusal.ReadFault → F.last files.new ≡ Some name.now }
     ensures never_falls { F.faults files.old ≤ F.faults files.new }
@@ -65,18 +46,22 @@ fn read_source<F: Files>(alloc: Global, files: &mut F, name: &str) -> Result<Pro
 {
     let text = match files.read(alloc, name, SOURCE_LIMIT) {
         Ok(text) => text,
-        Err(error) => return Err(Refusal::from(error)),
+        Err(FileErr::Failed) => return Err(Refusal::ReadFault),
+        Err(FileErr::TooBig) => return Err(Refusal::Source(SourceFault::TooBig)),
+        Err(FileErr::NoMemory) => return Err(Refusal::NoMemory),
     };
     match program_in(alloc, text.as_slice()) {
         Ok(Some(program)) => Ok(program),
         Ok(None) => Err(Refusal::Unsupported),
-        Err(_) => Err(Refusal::NoMemory),
+        Err(FrontErr::Refused(fault)) => Err(Refusal::Source(fault)),
+        Err(FrontErr::NoMemory) => Err(Refusal::NoMemory),
     }
 }
 
 /// Tests that a trace file is the plain trace.
 fn read_trace<F: Files>(alloc: Global, files: &mut F, name: &str) -> Result<(), Refusal>
     ensures told { OnOk result (WhereTold (F.contents files.old) name.now (λ text. text ≡ plain_trace)) }
+    ensures no_source { (fault : ASourceFault) → IsErrOf result (Refusal.Source fault) → ⊥ }
     ensures unsupported { IsErrOf result Refusal.Unsupported → WhereTold (F.contents files.old) name.now (λ text. text ≢ plain_trace) }
     ensures fault { IsErrOf result Refusal.ReadFault → HasRisen (F.faults files.old) (F.faults files.new) }
     ensures named { IsErrOf result Refusal.ReadFault → F.last files.new ≡ Some name.now }
@@ -85,7 +70,9 @@ fn read_trace<F: Files>(alloc: Global, files: &mut F, name: &str) -> Result<(), 
 {
     let text = match files.read(alloc, name, TRACE_LIMIT) {
         Ok(text) => text,
-        Err(error) => return Err(Refusal::from(error)),
+        Err(FileErr::Failed) => return Err(Refusal::ReadFault),
+        Err(FileErr::TooBig) => return Err(Refusal::Unsupported),
+        Err(FileErr::NoMemory) => return Err(Refusal::NoMemory),
     };
     if text.as_slice() == PLAIN_TRACE {
         Ok(())
@@ -102,6 +89,7 @@ pub fn accept<F: Files>(
     trace: &str,
 ) -> Result<Program, Refusal>
     ensures ok { IfOk result (λ program. Accepts (F.contents files.old) (source.now, trace.now) program) }
+    ensures refused { (fault : ASourceFault) → IsErrOf result (Refusal.Source fault) → Refuses (F.contents files.old) (source.now, trace.now) fault }
     ensures unsupported { IsErrOf result Refusal.Unsupported → IsUnsupported (F.contents files.old) (source.now, trace.now) }
     ensures fault { IsErrOf result Refusal.ReadFault → HasRisen (F.faults files.old) (F.faults files.new) }
     ensures named { IsErrOf result Refusal.ReadFault → (F.last files.new ≡ Some source.now) ⊎ (F.last files.new ≡ Some trace.now) }

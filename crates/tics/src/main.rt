@@ -3,17 +3,19 @@
 
 mod accept;
 mod command;
+mod fault;
+mod form;
+mod front;
 mod meaning;
 mod outcome;
+mod parts;
 mod player;
 mod print;
 mod report;
 mod source;
 #[cfg(test)]
 mod tests;
-mod tokens;
 mod top;
-mod words;
 
 use base16::NoMemory;
 use edge::{HostFiles, StdSink};

@@ -1,6 +1,7 @@
 ghost use Rattle.std.specs.Prelude.{◌≡◌};
 ghost use Rattle.tics.specs.Outcome.{said, status_of};
 
+use crate::fault::SourceFault;
 use edge::SinkErr;
 
 /// What a call of the program comes to.
@@ -8,6 +9,8 @@ use edge::SinkErr;
 pub enum Outcome {
     /// The program ran to its end, and its report was printed.
     Done,
+    /// The source has this fault.
+    Refused(SourceFault),
     /// The words are no command.
     Usage,
     /// A read answered a fault.
@@ -26,6 +29,7 @@ impl Outcome {
     {
         match self {
             Outcome::Done => 0,
+            Outcome::Refused(_) => 1,
             Outcome::Usage => 2,
             Outcome::ReadFault => 8,
             Outcome::WriteFault => 9,

@@ -80,6 +80,10 @@ fn an_accepted_source_is_run_and_reported(rt: HostRuntime) -> Result<(), Fail> {
             "on 1\ncommit 1 marks 4 instrs 0 pc 0000 sp 0000 words 0 log 0\nset g 5\nend done\n",
         ),
         (
+            "/* one */ int g; // two\n# 9 \"first.c\"\n\tint main(void)\r\n{g=/**/5;return\x0c0;}// end",
+            DONE,
+        ),
+        (
             "int main(void){return 0;}",
             "on 1\ncommit 1 marks 2 instrs 0 pc 0000 sp 0000 words 0 log 0\nend done\n",
         ),
@@ -94,28 +98,141 @@ fn an_accepted_source_is_run_and_reported(rt: HostRuntime) -> Result<(), Fail> {
 }
 
 #[test]
-fn any_other_source_is_unsupported(rt: HostRuntime) -> Result<(), Fail> {
+fn a_refused_source_is_named_with_its_line(rt: HostRuntime) -> Result<(), Fail> {
+    for (source, text) in [
+        ("\0", "source L1 line 1\n"),
+        ("int g;\n\n  \"", "source L1 line 3\n"),
+        ("@ /* x", "source L1 line 1\n"),
+        ("/* x", "source L2 line 1\n"),
+        ("int g;\n/* x\n", "source L2 line 2\n"),
+        (
+            "int g;\nint main(void){g=100000;return 0;}",
+            "source L3 line 2\n",
+        ),
+        ("1000ms", "source L3 line 1\n"),
+        ("\n\n\n'ab'", "source L4 line 4\n"),
+        ("int main(void){return 0}", "source P1 line 1\n"),
+        ("int int; int main(void){return 0;}", "source P1 line 1\n"),
+        ("intg; int main(void){return 0;}", "source P1 line 1\n"),
+        (
+            "int g;\nint 9; int main(void){return 0;}",
+            "source P1 line 2\n",
+        ),
+        (
+            "int g;\nint main(void){g=5;return 0;\n",
+            "source P1 line 2\n",
+        ),
+        ("\nint\n", "source P1 line 2\n"),
+    ] {
+        expect_run(&rt, rt.alloc(), source, 1, text)?;
+    }
+    Ok(())
+}
+
+/// A text, this piece so many times, and a text.
+fn repeated(
+    alloc: Global,
+    front: &str,
+    piece: &str,
+    count: usize,
+    back: &str,
+) -> Result<String, Fail> {
+    let mut text = String::from_str(alloc, front)?;
+    for _ in 0..count {
+        text.push_str(piece)?;
+    }
+    text.push_str(back)?;
+    Ok(text)
+}
+
+#[test]
+fn a_source_has_at_most_262144_bytes(rt: HostRuntime) -> Result<(), Fail> {
+    let alloc = rt.alloc();
+    let blanks = 262_144 - STORE.len();
+    let source = repeated(alloc, "", " ", blanks, STORE)?;
+    expect_run(&rt, alloc, source.as_str(), 0, DONE)?;
+    let source = repeated(alloc, " ", source.as_str(), 1, "")?;
+    expect_run(&rt, alloc, source.as_str(), 1, "source S5\n")?;
+    Ok(())
+}
+
+#[test]
+fn a_tree_has_at_most_20000_nodes(rt: HostRuntime) -> Result<(), Fail> {
+    let alloc = rt.alloc();
+    // Each `;` is a node, and main with its `return` has 3.
+    let source = repeated(alloc, "int main(void){", ";", 19_998, "return 0;}")?;
+    expect_run(&rt, alloc, source.as_str(), 1, "source S4\n")?;
+    Ok(())
+}
+
+#[test]
+fn a_front_of_a_source_is_refused_or_unsupported(rt: HostRuntime) -> Result<(), Fail> {
+    let alloc = rt.alloc();
+    let mut front = String::from_str(alloc, "")?;
+    for letter in [
+        "i", "n", "t", " ", "g", ";", " ", "i", "n", "t", " ", "m", "a", "i", "n", "(", "v", "o",
+        "i", "d", ")", "{", "g", "=", "5", ";", "r", "e", "t", "u", "r", "n", " ", "0", ";", "}",
+    ] {
+        let seen = call(alloc, &["run", "c", "t"], front.as_str(), PLAIN, &[], &[])?;
+        assert!(rt; seen.status == 1 || seen.status == 13);
+        assert_eq!(rt; seen.records, 0);
+        front.push_str(letter)?;
+    }
+    assert_eq!(rt; front.as_str(), STORE);
+    Ok(())
+}
+
+#[test]
+fn a_tree_of_another_form_is_unsupported(rt: HostRuntime) -> Result<(), Fail> {
     for source in [
         "",
-        "\0",
+        "int g;",
+        "int main(void);",
+        "int main(){return 0;}",
+        "int main(int a){return 0;}",
+        "int start(void){return 0;}",
+        "unsigned main(void){return 0;}",
+        "static int main(void){return 0;}",
+        "int main(void){}",
+        "int main(void){return;}",
+        "int main(void){return 1;}",
+        "int main(void){return 00;}",
+        "int main(void){return (0);}",
+        "int main(void){return 0;return 0;}",
+        "int main(void){;return 0;}",
+        "int g; int main(void){g=5;return 0;} int h;",
+        "int main(void){int g;g=5;return 0;}",
+        "int g, h; int main(void){return 0;}",
+        "int *g; int main(void){return 0;}",
+        "int g[1]; int main(void){return 0;}",
+        "int g=0; int main(void){return 0;}",
+        "signed int g; int main(void){return 0;}",
+        "const int g; int main(void){return 0;}",
+        "static int g; int main(void){return 0;}",
+        "@expires_after(5 s) int g; int main(void){return 0;}",
+        "struct s {int m;}; int main(void){return 0;}",
+        "int g; int g; int main(void){return 0;}",
+        "int emit; int main(void){return 0;}",
+        "int g; int main(void){h=5;return 0;}",
         "int g; int main(void){g=5+1;return 0;}",
         "int g; int main(void){g=05;return 0;}",
+        "int g; int main(void){g=0x5;return 0;}",
+        "int g; int main(void){g=5u;return 0;}",
+        "int g; int main(void){g=(5);return 0;}",
+        "int g; int main(void){(g)=5;return 0;}",
+        "int g; int main(void){g+=5;return 0;}",
         "int g; int main(void){g=32768;return 0;}",
-        "int g; int main(void){g=100000;return 0;}",
         "int g; int main(void){g=-1;return 0;}",
-        "int g; int g; int main(void){return 0;}",
-        "int g; int main(void){h=5;return 0;}",
-        "int int; int main(void){return 0;}",
-        "int emit; int main(void){return 0;}",
-        "intg; int main(void){return 0;}",
-        "int 9; int main(void){return 0;}",
+        "int g; int main(void){{g=5;}return 0;}",
         "int g; int main(void){g=5;return0;}",
-        "int g; int main(void){g=5;return 0;} int h;",
-        "int g;\tint main(void){g=5;return 0;}",
-        "int g; int main(void){g=5;return 0;",
     ] {
         expect_run(&rt, rt.alloc(), source, 13, "unsupported\n")?;
     }
+    Ok(())
+}
+
+#[test]
+fn another_trace_is_unsupported(rt: HostRuntime) -> Result<(), Fail> {
     let seen = call(
         rt.alloc(),
         &["run", "c", "t"],

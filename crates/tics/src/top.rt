@@ -2,11 +2,13 @@ ghost use Rattle.std.specs.Prelude.{◌≡◌, ◌⊎◌, [], Some, None, IfOk, 
 ghost use Rattle.std.specs.List.{concat};
 ghost use Rattle.edge.specs.Counts.{HasRisen};
 ghost use Rattle.edge.specs.Told.{Appends};
+ghost use Rattle.tics.specs.declared.fault.SourceFault.{SourceFault as ASourceFault};
 ghost use Rattle.tics.specs.declared.source.Program.{Program};
 ghost use Rattle.tics.specs.Command.{texts, command_of};
 ghost use Rattle.tics.specs.Form.{IsProgram};
 ghost use Rattle.tics.specs.Run.{history_of};
-ghost use Rattle.tics.specs.Outcome.{Happened, HasRun, IsStatus, IsUnsupported, IsFrontOfText, report_of, usage_text, fault_text, unsupported_text};
+ghost use Rattle.tics.specs.Source.{refusal_text};
+ghost use Rattle.tics.specs.Outcome.{Happened, HasRun, IsStatus, Refuses, IsUnsupported, IsFrontOfText, report_of, usage_text, fault_text, unsupported_text};
 
 use crate::accept::{Refusal, accept};
 use crate::command::command;
@@ -73,6 +75,12 @@ fn perform<F: Files, K: Sink>(
     let program = match accept(alloc, files, source, trace) {
         Ok(program) => program,
         Err(Refusal::ReadFault) => return Outcome::ReadFault.said(out.put(READ_FAULT)),
+        Err(Refusal::Source(fault)) => {
+            return match fault.text(alloc) {
+                Ok(text) => Outcome::Refused(fault).said(out.put(text.as_slice())),
+                Err(_) => Outcome::NoMemory,
+            };
+        }
         Err(Refusal::Unsupported) => return Outcome::Unsupported.said(out.put(UNSUPPORTED)),
         Err(Refusal::NoMemory) => return Outcome::NoMemory,
     };
@@ -83,9 +91,9 @@ fn perform<F: Files, K: Sink>(
 }
 
 /// The program: it reads the files that the words name, runs the source's program under the trace, prints the
-/// report, and answers the exit status: 0 where the run was done, 2 where the words are no command, 8 where a read
-/// and 9 where a put answered a fault, 10 for want of memory, 13 where the source or the trace has no form that is
-/// built yet. The board's memory is not used yet.
+/// report, and answers the exit status: 0 where the run was done, 1 where the source is refused, 2 where the words are
+/// no command, 8 where a read and 9 where a put answered a fault, 10 for want of memory, 13 where the source's tree or
+/// the trace has no form that is built yet. The board's memory is not used yet.
 pub fn tics<F: Files, K: Sink>(
     alloc: Global,
     words: &Vec<String>,
@@ -102,6 +110,11 @@ pub fn tics<F: Files, K: Sink>(
     ensures done { result ≡ 0 → (program : Program)
         × HasRun (F.contents files.old) (command_of (texts words.now.items)) book.new.records program
         × Appends (K.bytes out.old) (K.bytes out.new) (report_of program) }
+
+    // 1: the source has a fault, and what was put is its line.
+    ensures refused { result ≡ 1 → (fault : ASourceFault)
+        × IsSomeAnd (command_of (texts words.now.items)) (λ c. Refuses (F.contents files.old) c fault)
+        × Appends (K.bytes out.old) (K.bytes out.new) (refusal_text fault) }
 
     // 2
     ensures usage { result ≡ 2 → command_of (texts words.now.items) ≡ None }
@@ -127,7 +140,7 @@ pub fn tics<F: Files, K: Sink>(
         (command_of (texts words.now.items)) (F.faults files.old) (F.faults files.new) book.new.records (K.bytes out.old) (K.bytes out.new) }
 
     // The book is empty after a refusal, and never holds a part of a run.
-    ensures book_refused { (result ≡ 2) ⊎ (result ≡ 8) ⊎ (result ≡ 13) → book.new.records ≡ [] }
+    ensures book_refused { (result ≡ 1) ⊎ (result ≡ 2) ⊎ (result ≡ 8) ⊎ (result ≡ 13) → book.new.records ≡ [] }
     ensures book_stopped { (result ≡ 9) ⊎ (result ≡ 10) → (book.new.records ≡ [])
         ⊎ ((program : Program) × HasRun (F.contents files.old) (command_of (texts words.now.items)) book.new.records program) }
 

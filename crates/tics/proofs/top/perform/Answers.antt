@@ -3,9 +3,10 @@ use Rattle.std.proofs.Common.{◌≡◌, ◌∙◌, ap, sym, subst, inl, inr, re
 use Rattle.std.specs.Prelude.{IsSomeAnd}
 use Rattle.std.specs.List.{concat}
 use Rattle.edge.specs.Told.{Appends}
-use Rattle.tics.specs.declared.outcome.Outcome.TheVariants.{Done, Usage, ReadFault, Unsupported}
+use Rattle.tics.specs.declared.outcome.Outcome.TheVariants.{Done, Refused, Usage, ReadFault, Unsupported}
 use Rattle.tics.specs.Command.{texts, command_of}
-use Rattle.tics.specs.Outcome.{Seen, IsText, usage, fault, unsupported, printed, Happened, HasRun, IsUnsupported, usage_text, fault_text, unsupported_text, report_of}
+use Rattle.tics.specs.Outcome.{Seen, IsText, refused, usage, fault, unsupported, printed, Happened, HasRun, Refuses, IsUnsupported, usage_text, fault_text, unsupported_text, report_of}
+use Rattle.tics.specs.Source.{refusal_text}
 use Rattle.tics.proofs.OutcomeLaws.{said_text, said_lines, at_command}
 use Rattle.tics.proofs.top.perform.Goals as goal
 
@@ -70,6 +71,31 @@ returns-in-Err-Unsupported-clause-happened g c =
     (said_text seen unsupported_text Unsupported c.put-in-Err-Unsupported.result (unsupported cause) (inl refl) (λ t. record { cause = cause; text = t; book = refl })
     c.put-in-Err-Unsupported.ensures.ok c.put-in-Err-Unsupported.ensures.failed c.put-in-Err-Unsupported.ensures.front c.put-in-Err-Unsupported.ensures.no_memory)
 
+pub returns-in-Ok-text-clause-happened : goal.returns-in-Ok-text-clause-happened
+returns-in-Ok-text-clause-happened g c =
+    let seen : Seen = record {
+      files = g.F.Files.contents c.args.files.now;
+      command = command_of (texts c.args.words.now);
+      faults = g.F.Files.faults c.args.files.now;
+      faults_after = g.F.Files.faults c.accept.new.files;
+      last = g.F.Files.last c.accept.new.files;
+      bytes = g.K.Sink.bytes c.args.out.now;
+      bytes_after = g.K.Sink.bytes c.put-in-Ok-text.new.self;
+      put_faults = g.K.Sink.faults c.args.out.now;
+      put_faults_after = g.K.Sink.faults c.put-in-Ok-text.new.self;
+      records = c.args.book.now.records;
+      records_after = c.args.book.now.records;
+    } in
+    let reason = c.in-Err-Source.fault in
+    let cause : IsSomeAnd (command_of (texts c.args.words.now)) (λ p. Refuses (g.F.Files.contents c.args.files.now) p reason) =
+    at_command (command_of (texts c.args.words.now)) _ _ c.in-Some.ensures (c.in-Err-Source.ensures.refused reason (ap Err c.in-Err-Source.field-0-is)) in
+    let text : c.as_slice.result.now ≡ refusal_text reason = c.as_slice.ensures.value ∙ c.in-Ok-text.ensures in
+    subst (Happened seen) (sym c.said-in-Ok-text.ensures)
+    (said_text seen c.as_slice.result.now (Refused reason) c.put-in-Ok-text.result
+    (subst (λ (t : List ℕ). IsText seen.files seen.command seen.faults seen.faults_after seen.records_after t) (sym text) (refused reason cause)) (inl refl)
+    (λ t. record { cause = cause; text = subst (λ (x : List ℕ). Appends seen.bytes seen.bytes_after x) text t; book = refl })
+    c.put-in-Ok-text.ensures.ok c.put-in-Ok-text.ensures.failed c.put-in-Ok-text.ensures.front c.put-in-Ok-text.ensures.no_memory)
+
 pub returns-in-Ok-run_and_report-clause-happened : goal.returns-in-Ok-run_and_report-clause-happened
 returns-in-Ok-run_and_report-clause-happened g c =
     let seen : Seen = record {
@@ -87,9 +113,9 @@ returns-in-Ok-run_and_report-clause-happened g c =
     } in
     let run : HasRun (g.F.Files.contents c.args.files.now) (command_of (texts c.args.words.now)) c.run_and_report.new.book.records c.in-Ok.program =
     record { accepted = at_command (command_of (texts c.args.words.now)) _ _ c.in-Some.ensures c.in-Ok.ensures.ok; history = c.in-Ok-run_and_report.ensures.history } in
-    let text : concat c.as_slice.result.now ≡ report_of c.in-Ok.program = ap concat c.as_slice.ensures.value ∙ c.in-Ok-run_and_report.ensures.lines in
+    let text : concat c.as_slice-in-Ok-run_and_report.result.now ≡ report_of c.in-Ok.program = ap concat c.as_slice-in-Ok-run_and_report.ensures.value ∙ c.in-Ok-run_and_report.ensures.lines in
     subst (Happened seen) (sym c.said-in-Ok-run_and_report.ensures)
-    (said_lines seen (concat c.as_slice.result.now) Done c.print.result
+    (said_lines seen (concat c.as_slice-in-Ok-run_and_report.result.now) Done c.print.result
     (subst (λ (t : List ℕ). IsText seen.files seen.command seen.faults seen.faults_after seen.records_after t) (sym text) (printed c.in-Ok.program run)) (inr (c.in-Ok.program, run))
     (λ t. record { program = c.in-Ok.program; run = run; printed = subst (λ (x : List ℕ). Appends seen.bytes seen.bytes_after x) text t })
     c.print.ensures.ok c.print.ensures.failed c.print.ensures.front)
