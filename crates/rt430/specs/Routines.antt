@@ -6,8 +6,8 @@ use Rattle.rt430.specs.declared.words.Helper.{Helper}
 use Rattle.rt430.specs.declared.words.Helper.TheVariants.{Mul16, Udiv16, Umod16, Sdiv16, Smod16, Shl, Shr, Sar}
 use Rattle.rt430.specs.Operators.{value, HasValue}
 
--- it comes back with this answer in R12 within 400 instructions, reads only its own words, its return word and the word
--- below that, and writes only the latter
+-- it comes back with this answer in R12 within 400 instructions, reads only its own words and its return word, and writes
+-- at most the word below that
 abbrev pub Answers : (ℕ → Bool) → List ℕ → ℕ → ℕ → State → Type 0
 Answers denied ws base answer s =
     ComesBack denied (RoutineReads base (2 * length ws) (s.regs 1)) (RoutineWrites (s.regs 1)) 400 answer s

@@ -32,9 +32,9 @@ pub record IsCall (denied : ℕ → Bool) (ws : List ℕ) (base x y : ℕ) (s : 
   pub second : s.regs 13 ≡ y
   pub second_word : y < 65536
 
--- the words that a routine may read: its own, its return word and the word below that
+-- the words that a routine may read: its own and its return word
 abbrev pub RoutineReads : ℕ → ℕ → ℕ → ℕ → Type 0
-RoutineReads base size sp a = ((base ≤ a) × (a < base + size)) ⊎ ((a ≡ sp) ⊎ (a ≡ lowered sp))
+RoutineReads base size sp a = ((base ≤ a) × (a < base + size)) ⊎ (a ≡ sp)
 
 -- the word below its return word is all that it may write
 abbrev pub RoutineWrites : ℕ → ℕ → Type 0
