@@ -1,4 +1,4 @@
-ghost use Rattle.std.specs.Prelude.{◌≡◌, [], ◌∷◌, ◌++◌, length, OnOk, OnErr};
+ghost use Rattle.std.specs.Prelude.{◌≡◌, [], ◌∷◌, ◌++◌, ◌<◌, length, slice_get, slice_set, MatchOption, OnOk, OnErr};
 
 use crate::name::NoMemory;
 use std::alloc::Global;
@@ -62,12 +62,58 @@ impl<T> Sequence<T> {
 }
 
 impl<T: Drop> Sequence<T> {
+    /// Puts another element at a place.
+    pub fn set(&mut self, at: usize, item: T)
+        requires { at < length self.old }
+        ensures { self.new ≡ slice_set self.old at item }
+    {
+        self.items[at] = item;
+    }
+
+    /// Puts another element at a place and answers the one that stood there.
+    pub fn replace(&mut self, at: usize, item: T) -> T
+        requires { at < length self.old }
+        ensures found { slice_get self.old at ≡ Some result }
+        ensures rest { self.new ≡ slice_set self.old at item }
+    {
+        std::mem::replace(&mut self.items[at], item)
+    }
+
+    /// Takes the last element away.
+    pub fn pop(&mut self) -> Option<T>
+        ensures { MatchOption result ((self.old ≡ []) × (self.new ≡ [])) (λ last. self.old ≡ self.new ++ last ∷ []) }
+    {
+        self.items.pop()
+    }
+
     /// Adds an element at the end; an `Err` changes nothing.
     pub fn push(&mut self, item: T) -> Result<(), NoMemory>
         ensures ok { OnOk result (self.new ≡ self.old ++ item ∷ []) }
         ensures err { OnErr result (self.new ≡ self.old) }
     {
         self.items.push(item)?;
+        Ok(())
+    }
+}
+
+#[cfg(test)]
+mod tests {
+    use super::*;
+    use std::test::Fail;
+
+    #[test]
+    fn elements_are_put_in_place_of_others_and_taken_from_the_end(
+        rt: HostRuntime,
+    ) -> Result<(), Fail> {
+        let mut numbers: Sequence<u16> = Sequence::new(rt.alloc());
+        numbers.push(1)?;
+        numbers.push(2)?;
+        numbers.set(0, 3);
+        assert_eq!(rt; numbers.replace(1, 4), 2);
+        assert_eq!(rt; numbers.as_slice(), [3, 4].as_slice());
+        assert_eq!(rt; numbers.pop(), Some(4));
+        assert_eq!(rt; numbers.pop(), Some(3));
+        assert_eq!(rt; numbers.pop(), None);
         Ok(())
     }
 }
