@@ -1,0 +1,14 @@
+//! The typed tree of a program: what is left of a source once it is checked.
+#![tactic(auto)]
+
+mod expressions;
+mod kinds;
+mod program;
+mod statements;
+mod types;
+
+pub use expressions::{Expr, ExprKind, Place, PlaceKind};
+pub use kinds::{int_type_of, is_pointer, kind_of, target_of};
+pub use program::{Core, Function, Global, Initial, Typed};
+pub use statements::{Group, Init, Stmt, StmtKind};
+pub use types::{Member, Slot, Struct, Ty};
