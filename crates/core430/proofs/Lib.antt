@@ -1,6 +1,5 @@
 pub mod Flags
 pub mod Outcomes
-pub mod PlainLemmas
 pub mod StepLemmas
 pub mod Validity
 pub mod Widths

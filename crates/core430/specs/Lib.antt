@@ -7,3 +7,4 @@ pub mod Instructions
 pub mod Step
 pub mod Shown
 pub mod Conditions
+pub mod Uses

@@ -20,6 +20,12 @@ outcome_shown WentOn r m = Next (record { regs = r; memory = m })
 outcome_shown (Called number) r m = Service number (record { regs = r; memory = m })
 outcome_shown (WentWild address) r m = Wild address
 
+-- a fact for a service that was called, of its number
+abbrev pub OnService : Stepped → (ℕ → Type 0) → Type 0
+OnService WentOn P = Unit {0}
+OnService (Called number) P = P number
+OnService (WentWild address) P = Unit {0}
+
 -- a fact for an access that was refused
 abbrev pub OnWild : Stepped → Type 0 → Type 0
 OnWild WentOn P = Unit {0}

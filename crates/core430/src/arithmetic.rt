@@ -4,6 +4,7 @@ ghost use Rattle.core430.specs.Arithmetic.{span_of, half_of, is_negative as is_n
 
 use crate::status::with;
 
+#[inline(always)]
 pub fn is_negative(byte: bool, value: u16) -> bool
     ensures { result ≡ is_negative_of byte value }
 {
@@ -11,6 +12,7 @@ pub fn is_negative(byte: bool, value: u16) -> bool
 }
 
 /// The number that an operand encodes in two's complement.
+#[inline(always)]
 fn signed(byte: bool, value: u16) -> i32
     requires { value < span_of byte }
     ensures value { result ≡ signed_of byte value }
@@ -29,6 +31,7 @@ fn signed(byte: bool, value: u16) -> i32
 }
 
 /// Whether an operand can encode the number.
+#[inline(always)]
 fn fits(byte: bool, number: i32) -> bool
     ensures { result ≡ is_in_range byte number }
 {
@@ -40,6 +43,7 @@ fn fits(byte: bool, number: i32) -> bool
 }
 
 /// A bit as a number.
+#[inline(always)]
 fn number_of(set: bool) -> u16
     ensures value { result ≡ bit set }
     ensures small { result ≤ 1 }
@@ -47,6 +51,7 @@ fn number_of(set: bool) -> u16
     if set { 1 } else { 0 }
 }
 
+#[inline(always)]
 fn result_status(byte: bool, status: u16, value: u16, c: bool, v: bool) -> u16
     ensures { result ≡ result_status_of byte status value c v }
 {
@@ -54,6 +59,7 @@ fn result_status(byte: bool, status: u16, value: u16, c: bool, v: bool) -> u16
 }
 
 /// The destination plus the source plus the carry, cut to the width.
+#[inline(always)]
 pub fn sum(byte: bool, c: bool, d: u16, s: u16) -> u16
     ensures { result ≡ sum_of byte c d s }
 {
@@ -66,6 +72,7 @@ pub fn sum(byte: bool, c: bool, d: u16, s: u16) -> u16
 }
 
 /// Whether the exact sum passes the width.
+#[inline(always)]
 fn sum_carries(byte: bool, c: bool, d: u16, s: u16) -> bool
     ensures { result ≡ nat_le (span_of byte) (d + s + bit c) }
 {
@@ -74,6 +81,7 @@ fn sum_carries(byte: bool, c: bool, d: u16, s: u16) -> bool
 }
 
 /// The exact signed sum.
+#[inline(always)]
 fn signed_sum(byte: bool, c: bool, d: u16, s: u16) -> i32
     requires destination { d < span_of byte }
     requires source { s < span_of byte }
@@ -83,6 +91,7 @@ fn signed_sum(byte: bool, c: bool, d: u16, s: u16) -> i32
 }
 
 /// Whether the exact signed sum lies outside the width's range.
+#[inline(always)]
 fn sum_overflows(byte: bool, c: bool, d: u16, s: u16) -> bool
     requires destination { d < span_of byte }
     requires source { s < span_of byte }
@@ -91,6 +100,7 @@ fn sum_overflows(byte: bool, c: bool, d: u16, s: u16) -> bool
     !fits(byte, signed_sum(byte, c, d, s))
 }
 
+#[inline(always)]
 pub fn sum_status(byte: bool, status: u16, c: bool, d: u16, s: u16) -> u16
     requires destination { d < span_of byte }
     requires source { s < span_of byte }
@@ -106,6 +116,7 @@ pub fn sum_status(byte: bool, status: u16, c: bool, d: u16, s: u16) -> u16
 }
 
 /// The destination less the source less what is borrowed, cut to the width.
+#[inline(always)]
 pub fn difference(byte: bool, b: bool, d: u16, s: u16) -> u16
     requires { s < span_of byte }
     ensures { result ≡ difference_of byte b d s }
@@ -119,6 +130,7 @@ pub fn difference(byte: bool, b: bool, d: u16, s: u16) -> u16
 }
 
 /// The exact signed difference.
+#[inline(always)]
 fn signed_difference(byte: bool, b: bool, d: u16, s: u16) -> i32
     requires destination { d < span_of byte }
     requires source { s < span_of byte }
@@ -128,6 +140,7 @@ fn signed_difference(byte: bool, b: bool, d: u16, s: u16) -> i32
 }
 
 /// Whether the exact signed difference lies outside the width's range.
+#[inline(always)]
 fn difference_overflows(byte: bool, b: bool, d: u16, s: u16) -> bool
     requires destination { d < span_of byte }
     requires source { s < span_of byte }
@@ -136,6 +149,7 @@ fn difference_overflows(byte: bool, b: bool, d: u16, s: u16) -> bool
     !fits(byte, signed_difference(byte, b, d, s))
 }
 
+#[inline(always)]
 pub fn difference_status(byte: bool, status: u16, b: bool, d: u16, s: u16) -> u16
     requires destination { d < span_of byte }
     requires source { s < span_of byte }
@@ -151,6 +165,7 @@ pub fn difference_status(byte: bool, status: u16, b: bool, d: u16, s: u16) -> u1
     )
 }
 
+#[inline(always)]
 pub fn logic_status(byte: bool, status: u16, value: u16, v: bool) -> u16
     ensures { result ≡ logic_status_of byte status value v }
 {
@@ -158,6 +173,7 @@ pub fn logic_status(byte: bool, status: u16, value: u16, v: bool) -> u16
 }
 
 /// Every bit of an operand turned.
+#[inline(always)]
 pub fn complement(byte: bool, value: u16) -> u16
     requires { value < span_of byte }
     ensures { result ≡ complement_of byte value }
@@ -166,6 +182,7 @@ pub fn complement(byte: bool, value: u16) -> u16
 }
 
 /// One place to the right, with a bit that enters at the top.
+#[inline(always)]
 pub fn shift(byte: bool, top: bool, value: u16) -> u16
     requires { value < span_of byte }
     ensures value { result ≡ shifted byte top value }
@@ -181,6 +198,7 @@ pub fn shift(byte: bool, top: bool, value: u16) -> u16
     value / 2 + entering
 }
 
+#[inline(always)]
 pub fn shift_status(byte: bool, status: u16, value: u16, shifted_value: u16) -> u16
     ensures { result ≡ shift_status_of byte status value shifted_value }
 {
@@ -188,6 +206,7 @@ pub fn shift_status(byte: bool, status: u16, value: u16, shifted_value: u16) -> 
 }
 
 /// The bytes exchanged.
+#[inline(always)]
 pub fn swapped(value: u16) -> u16
     ensures { result ≡ swapped_of value }
 {
@@ -195,6 +214,7 @@ pub fn swapped(value: u16) -> u16
 }
 
 /// Bit 7 in bits 15 to 8.
+#[inline(always)]
 pub fn extended(value: u16) -> u16
     ensures { result ≡ extended_of value }
 {

@@ -29,6 +29,7 @@ struct Answer {
 }
 
 /// The sum of the operands and a carry.
+#[inline(always)]
 fn added(byte: bool, status: u16, c: bool, d: u16, s: u16) -> Answer
     requires destination { d < span_of byte }
     requires source { s < span_of byte }
@@ -43,6 +44,7 @@ fn added(byte: bool, status: u16, c: bool, d: u16, s: u16) -> Answer
 }
 
 /// The difference of the operands and a borrow.
+#[inline(always)]
 fn subtracted(byte: bool, status: u16, b: bool, d: u16, s: u16) -> Answer
     requires destination { d < span_of byte }
     requires source { s < span_of byte }
@@ -57,6 +59,7 @@ fn subtracted(byte: bool, status: u16, b: bool, d: u16, s: u16) -> Answer
 }
 
 /// A result that changes no flag.
+#[inline(always)]
 fn plain(value: u16) -> Answer
     ensures value { result.result_value ≡ value }
     ensures status { result.status ≡ None }
@@ -68,6 +71,7 @@ fn plain(value: u16) -> Answer
 }
 
 /// A result of bits, with its flags.
+#[inline(always)]
 fn logic(byte: bool, status: u16, value: u16, v: bool) -> Answer
     ensures value { result.result_value ≡ value }
     ensures status { result.status ≡ Some (logic_status_of byte status value v) }
@@ -80,6 +84,7 @@ fn logic(byte: bool, status: u16, value: u16, v: bool) -> Answer
 
 /// What an operator of two operands gives.
 #[tactic(auto, using(crate::proofs::Widths::and_fits, crate::proofs::Widths::or_fits, crate::proofs::Widths::xor_fits))]
+#[inline(always)]
 fn two_answer(op: TwoOp, byte: bool, status: u16, d: u16, s: u16) -> Answer
     requires destination { d < span_of byte }
     requires source { s < span_of byte }
@@ -106,6 +111,7 @@ fn two_answer(op: TwoOp, byte: bool, status: u16, d: u16, s: u16) -> Answer
 }
 
 /// Whether the result of an operator is kept: CMP and BIT set the flags alone.
+#[inline(always)]
 fn is_kept(op: TwoOp) -> bool
     ensures { result ≡ is_kept_of op }
 {
@@ -113,6 +119,7 @@ fn is_kept(op: TwoOp) -> bool
 }
 
 /// A shift by one place to the right.
+#[inline(always)]
 fn shifted_answer(byte: bool, status: u16, top: bool, v: u16) -> Answer
     requires { v < span_of byte }
     ensures value { result.result_value ≡ shifted byte top v }
@@ -127,6 +134,7 @@ fn shifted_answer(byte: bool, status: u16, top: bool, v: u16) -> Answer
 }
 
 /// What an operator of one operand gives.
+#[inline(always)]
 fn one_answer(op: OneOp, byte: bool, status: u16, v: u16) -> Answer
     requires width { HasWidth op byte }
     requires operand { v < span_of byte }
@@ -144,6 +152,7 @@ fn one_answer(op: OneOp, byte: bool, status: u16, v: u16) -> Answer
 }
 
 /// A byte that is written to memory with its word.
+#[inline(always)]
 fn byte_stored<M: Memory>(memory: &M, address: u16, byte: u16) -> Change
     requires { byte < 256 }
     ensures value { (r : ℕ → ℕ) → effect_shown result r ≡ deliver_of true r (M.words memory.now) (Place.InMemory address) byte }
@@ -157,6 +166,7 @@ fn byte_stored<M: Memory>(memory: &M, address: u16, byte: u16) -> Change
 }
 
 /// Sends a result to its place.
+#[inline(always)]
 fn deliver<M: Memory>(regs: &mut Regs, memory: &M, byte: bool, place: Place, v: u16) -> Change
     requires inside { IsInside place }
     requires reachable { IsReachable byte place }
@@ -181,6 +191,7 @@ fn deliver<M: Memory>(regs: &mut Regs, memory: &M, byte: bool, place: Place, v: 
 }
 
 /// Whether a word with CPUOFF would go to the status register.
+#[inline(always)]
 fn switches_off(place: Place, v: u16) -> bool
     ensures { result ≡ switches_off_of place v }
 {
@@ -191,6 +202,7 @@ fn switches_off(place: Place, v: u16) -> bool
 }
 
 /// Sends a result to its place, which may not switch the core off; pc is the address of the instruction.
+#[inline(always)]
 fn settle<M: Memory>(
     regs: &mut Regs,
     memory: &M,
@@ -213,6 +225,7 @@ fn settle<M: Memory>(
 }
 
 /// SP less 2.
+#[inline(always)]
 fn lowered_stack(regs: &Regs) -> u16
     ensures { result ≡ lowered (view_of regs.now.r 1) }
 {
@@ -220,6 +233,7 @@ fn lowered_stack(regs: &Regs) -> u16
 }
 
 /// Lowers SP by 2 and writes a word there.
+#[inline(always)]
 fn push(regs: &mut Regs, word: u16) -> Change
     ensures value { effect_shown result (view_of regs.new.r) ≡ push_effect (view_of regs.old.r) word }
     ensures even { IsEvenStore result }
@@ -233,6 +247,7 @@ fn push(regs: &mut Regs, word: u16) -> Change
 }
 
 /// Lowers SP by 2, writes PC there, which is the address after the CALL, and sets PC.
+#[inline(always)]
 fn call(regs: &mut Regs, target: u16) -> Change
     ensures value { effect_shown result (view_of regs.new.r) ≡ call_effect (view_of regs.old.r) target }
     ensures even { IsEvenStore result }
@@ -248,6 +263,7 @@ fn call(regs: &mut Regs, target: u16) -> Change
 }
 
 /// Whether a jump is taken.
+#[inline(always)]
 fn is_taken(cond: Cond, status: u16) -> bool
     ensures { result ≡ is_taken_of cond status }
 {
@@ -264,6 +280,7 @@ fn is_taken(cond: Cond, status: u16) -> bool
 }
 
 /// Where a jump goes from the instruction after it.
+#[inline(always)]
 fn target(next: u16, offset: i16) -> u16
     requires low { negsuc 511 ≤ℤ offset }
     requires high { offset ≤ℤ pos 511 }
@@ -277,6 +294,7 @@ fn target(next: u16, offset: i16) -> u16
 }
 
 /// A jump.
+#[inline(always)]
 pub fn jump(cond: Cond, offset: i16, pc: u16, regs: &mut Regs) -> Change
     requires low { negsuc 511 ≤ℤ offset }
     requires high { offset ≤ℤ pos 511 }
@@ -290,8 +308,9 @@ pub fn jump(cond: Cond, offset: i16, pc: u16, regs: &mut Regs) -> Change
     Change::Sets
 }
 
-/// An instruction of two operands.
-pub fn two<M: Memory>(
+/// An instruction of two operands of a width.
+#[inline(always)]
+fn two_of_width<M: Memory>(
     op: TwoOp,
     byte: bool,
     src: Src,
@@ -325,7 +344,31 @@ pub fn two<M: Memory>(
     }
 }
 
+/// An instruction of two operands.
+#[inline(always)]
+pub fn two<M: Memory>(
+    op: TwoOp,
+    byte: bool,
+    src: Src,
+    dst: Dst,
+    pc: u16,
+    regs: &mut Regs,
+    memory: &M,
+) -> Change
+    requires source { HasSource src }
+    requires destination { HasDestination dst }
+    ensures value { effect_shown result (view_of regs.new.r) ≡ effect_of pc (Instr.Two op byte src dst) (view_of regs.old.r) (M.words memory.now) }
+    ensures even { IsEvenStore result }
+{
+    if byte {
+        two_of_width(op, true, src, dst, pc, regs, memory)
+    } else {
+        two_of_width(op, false, src, dst, pc, regs, memory)
+    }
+}
+
 /// An operand that is changed in place.
+#[inline(always)]
 fn change<M: Memory>(
     op: OneOp,
     byte: bool,
@@ -347,8 +390,9 @@ fn change<M: Memory>(
     deliver(regs, memory, byte, from, answer.result_value)
 }
 
-/// An instruction of one operand.
-pub fn one<M: Memory>(
+/// An instruction of one operand of a width.
+#[inline(always)]
+fn one_of_width<M: Memory>(
     op: OneOp,
     byte: bool,
     src: Src,
@@ -372,5 +416,27 @@ pub fn one<M: Memory>(
         OneOp::Push => push(regs, v),
         OneOp::Call => call(regs, v),
         _ => change(op, byte, from, v, status, regs, memory),
+    }
+}
+
+/// An instruction of one operand.
+#[inline(always)]
+pub fn one<M: Memory>(
+    op: OneOp,
+    byte: bool,
+    src: Src,
+    pc: u16,
+    regs: &mut Regs,
+    memory: &M,
+) -> Change
+    requires width { HasWidth op byte }
+    requires source { HasSource src }
+    ensures value { effect_shown result (view_of regs.new.r) ≡ effect_of pc (Instr.One op byte src) (view_of regs.old.r) (M.words memory.now) }
+    ensures even { IsEvenStore result }
+{
+    if byte {
+        one_of_width(op, true, src, pc, regs, memory)
+    } else {
+        one_of_width(op, false, src, pc, regs, memory)
     }
 }

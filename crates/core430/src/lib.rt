@@ -11,9 +11,6 @@ mod plain;
 mod registers;
 mod status;
 
-pub use machine::{Stepped, step};
+pub use machine::{Ready, Stepped, execute, fetch, step};
 pub use memory::{Denied, Memory};
 pub use plain::PlainMemory;
-
-#[cfg(test)]
-mod tests;

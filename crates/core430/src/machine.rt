@@ -1,10 +1,10 @@
-ghost use Rattle.std.specs.Prelude.{◌≡◌, ℕ, ◌*◌, ◌%◌, Some, None, IfSome, MatchOption};
-ghost use Rattle.isa430.specs.Table.{size_of};
+ghost use Rattle.std.specs.Prelude.{◌≡◌, ◌<◌, ℕ, ◌*◌, ◌%◌, Some, None, IsTrue, MatchOption};
+ghost use Rattle.isa430.specs.Table.{size_of, valid};
 ghost use Rattle.core430.specs.Registers.{view_of};
 ghost use Rattle.core430.specs.Instructions.{effect_of};
-ghost use Rattle.core430.specs.Step.{State, arrive, finish as finish_of, instr_at, step as step_of};
+ghost use Rattle.core430.specs.Step.{State, arrive, finish as finish_of, execute as execute_of, instr_at, step as step_of};
 ghost use Rattle.core430.specs.Conditions.{HasOperands, IsEvenStore};
-ghost use Rattle.core430.specs.Shown.{AtMostOnePut, OnWild, IsTame, effect_shown, outcome_shown};
+ghost use Rattle.core430.specs.Shown.{AtMostOnePut, OnService, OnWild, IsTame, effect_shown, outcome_shown};
 
 use crate::change::Change;
 use crate::instruction::{jump, one, two};
@@ -41,6 +41,7 @@ fn perform<M: Memory>(instr: Instr, pc: u16, regs: &mut Regs, memory: &M) -> Cha
 fn arrived(regs: &Regs) -> Stepped
     ensures value { (m : ℕ → ℕ) → outcome_shown result (view_of regs.now.r) m ≡ arrive (view_of regs.now.r) m }
     ensures tame { IsTame result }
+    ensures number { OnService result (λ n. n < 32) }
 {
     let pc = regs.r[0];
     if pc >= 0xff00 && pc < 0xff40 && pc % 2 == 0 {
@@ -56,10 +57,13 @@ fn arrived(regs: &Regs) -> Stepped
 fn finish<M: Memory>(change: Change, before: &Regs, regs: &mut Regs, memory: &mut M) -> Stepped
     requires { IsEvenStore change }
     ensures is { outcome_shown result (view_of regs.new.r) (M.words memory.new) ≡ finish_of (M.denied memory.old) (M.words memory.old) (effect_shown change (view_of regs.old.r)) }
+    ensures number { OnService result (λ n. n < 32) }
     ensures wild_registers { OnWild result (regs.new ≡ before.now) }
     ensures wild_memory { OnWild result (M.words memory.new ≡ M.words memory.old) }
     ensures one_put { AtMostOnePut (M.denied memory.old) (M.words memory.old) (M.words memory.new) }
     ensures kept { M.denied memory.new ≡ M.denied memory.old }
+    ensures lender { M.lender memory.new ≡ M.lender memory.old }
+    ensures aside { M.aside memory.new ≡ M.aside memory.old }
 {
     match change {
         Change::Sets => arrived(regs),
@@ -77,20 +81,47 @@ fn finish<M: Memory>(change: Change, before: &Regs, regs: &mut Regs, memory: &mu
     }
 }
 
-/// The instruction that stands at an even address, and the number of its words.
-#[tactic(auto, using(crate::proofs::Validity::operands_there))]
-fn fetch<M: Memory>(address: u16, memory: &M) -> Option<(Instr, u8)>
+/// An instruction of the table, and the number of its words.
+#[derive(Clone, Copy, Debug, PartialEq, Eq)]
+pub struct Ready {
+    pub instr: Instr,
+    pub len: u8,
+    pub ghost formed: { IsTrue (valid instr) },
+    pub ghost size: { 2 * len ≡ size_of instr },
+}
+
+/// The instruction that stands at an even address.
+pub fn fetch<M: Memory>(address: u16, memory: &M) -> Option<Ready>
     requires { address % 2 ≡ 0 }
-    ensures value { MatchOption result (instr_at (M.words memory.now) address ≡ None) (λ d. instr_at (M.words memory.now) address ≡ Some d.0) }
-    ensures operands { IfSome result (λ d. HasOperands d.0) }
-    ensures size { IfSome result (λ d. 2 * d.1 ≡ size_of d.0) }
+    ensures { MatchOption result (instr_at (M.words memory.now) address ≡ None) (λ d. instr_at (M.words memory.now) address ≡ Some d.instr) }
 {
     let words = [
         memory.get(address),
         memory.get(address.wrapping_add(2)),
         memory.get(address.wrapping_add(4)),
     ];
-    decode(&words)
+    let (instr, len) = decode(&words)?;
+    Some(Ready { instr, len })
+}
+
+/// Executes an instruction that stands at PC.
+#[tactic(auto, using(crate::proofs::Validity::operands_there))]
+#[inline(always)]
+pub fn execute<M: Memory>(ready: Ready, regs: &mut Regs, memory: &mut M) -> Stepped
+    ensures is { outcome_shown result (view_of regs.new.r) (M.words memory.new) ≡ execute_of (M.denied memory.old) ready.instr (record { regs = view_of regs.old.r; memory = M.words memory.old }) }
+    ensures number { OnService result (λ n. n < 32) }
+    ensures wild_registers { OnWild result (regs.new ≡ regs.old) }
+    ensures wild_memory { OnWild result (M.words memory.new ≡ M.words memory.old) }
+    ensures one_put { AtMostOnePut (M.denied memory.old) (M.words memory.old) (M.words memory.new) }
+    ensures kept { M.denied memory.new ≡ M.denied memory.old }
+    ensures lender { M.lender memory.new ≡ M.lender memory.old }
+    ensures aside { M.aside memory.new ≡ M.aside memory.old }
+{
+    let pc = regs.r[0];
+    let before = *regs;
+    set(regs, 0, pc.wrapping_add(2 * ready.len as u16));
+    let change = perform(ready.instr, pc, regs, memory);
+    finish(change, &before, regs, memory)
 }
 
 /// Executes the instruction at PC (MSP430 user's guide, 16-bit CPU, "Instruction Set"). `Wild` comes in this order: PC
@@ -99,20 +130,20 @@ fn fetch<M: Memory>(address: u16, memory: &M) -> Option<(Instr, u8)>
 /// Registers and memory are then as before.
 pub fn step<M: Memory>(regs: &mut Regs, memory: &mut M) -> Stepped
     ensures is { outcome_shown result (view_of regs.new.r) (M.words memory.new) ≡ step_of (M.denied memory.old) (record { regs = view_of regs.old.r; memory = M.words memory.old }) }
+    ensures number { OnService result (λ n. n < 32) }
     ensures wild_registers { OnWild result (regs.new ≡ regs.old) }
     ensures wild_memory { OnWild result (M.words memory.new ≡ M.words memory.old) }
     ensures one_put { AtMostOnePut (M.denied memory.old) (M.words memory.old) (M.words memory.new) }
     ensures kept { M.denied memory.new ≡ M.denied memory.old }
+    ensures lender { M.lender memory.new ≡ M.lender memory.old }
+    ensures aside { M.aside memory.new ≡ M.aside memory.old }
 {
     let pc = regs.r[0];
     if pc % 2 != 0 {
         return Stepped::Wild { address: pc };
     }
-    let Some((instr, len)) = fetch(pc, memory) else {
-        return Stepped::Wild { address: pc };
-    };
-    let before = *regs;
-    set(regs, 0, pc.wrapping_add(2 * len as u16));
-    let change = perform(instr, pc, regs, memory);
-    finish(change, &before, regs, memory)
+    match fetch(pc, memory) {
+        Some(ready) => execute(ready, regs, memory),
+        None => Stepped::Wild { address: pc },
+    }
 }

@@ -1,4 +1,4 @@
-ghost use Rattle.std.specs.Prelude.{◌≡◌, ℕ, ◌%◌, Bool, OnOk, OnErr, is_err};
+ghost use Rattle.std.specs.Prelude.{◌≡◌, ℕ, ◌%◌, Bool, List, OnOk, OnErr, is_err};
 ghost use Rattle.base16.specs.Memory.{put as put_word};
 
 /// A write that was refused.
@@ -13,6 +13,13 @@ pub trait Memory {
     /// Whether a write to an address is refused.
     ghost denied: { Self → ℕ → Bool };
 
+    /// The name of the reference through which it writes, where it holds one: a caller that lends its memory gets it back
+    /// as the steps left it.
+    ghost lender: { Self → ℕ };
+
+    /// What no write changes.
+    ghost aside: { Self → List ℕ };
+
     /// The word at an even byte address.
     fn get(&self, address: u16) -> u16
         requires { address % 2 ≡ 0 }
@@ -24,5 +31,7 @@ pub trait Memory {
         ensures refused { is_err result ≡ denied self.old address }
         ensures ok { OnOk result (words self.new ≡ put_word (words self.old) address word) }
         ensures err { OnErr result (words self.new ≡ words self.old) }
-        ensures kept { denied self.new ≡ denied self.old };
+        ensures kept { denied self.new ≡ denied self.old }
+        ensures lender { lender self.new ≡ lender self.old }
+        ensures aside { aside self.new ≡ aside self.old };
 }

@@ -19,6 +19,7 @@ pub enum Place {
 }
 
 /// What a constant generator gives.
+#[inline(always)]
 pub fn constant(generated: Gen) -> u16
     ensures { result ≡ constant_of generated }
 {
@@ -32,6 +33,7 @@ pub fn constant(generated: Gen) -> u16
     }
 }
 
+#[inline(always)]
 pub fn source_place(regs: &Regs, src: Src) -> Place
     requires { HasSource src }
     ensures value { result ≡ src_place (view_of regs.now.r) src }
@@ -48,6 +50,7 @@ pub fn source_place(regs: &Regs, src: Src) -> Place
     }
 }
 
+#[inline(always)]
 pub fn destination_place(regs: &Regs, dst: Dst) -> Place
     requires { HasDestination dst }
     ensures value { result ≡ dst_place (view_of regs.now.r) dst }
@@ -61,6 +64,7 @@ pub fn destination_place(regs: &Regs, dst: Dst) -> Place
 }
 
 /// By how much `@Rn+` raises its register.
+#[inline(always)]
 fn raise_by(byte: bool, register: u8) -> u16
     ensures { result ≡ raise_of byte register }
 {
@@ -68,6 +72,7 @@ fn raise_by(byte: bool, register: u8) -> u16
 }
 
 /// Raises the register of `@Rn+`.
+#[inline(always)]
 pub fn raise(regs: &mut Regs, byte: bool, src: Src)
     requires { HasSource src }
     ensures { view_of regs.new.r ≡ raised byte (view_of regs.old.r) src }
@@ -79,6 +84,7 @@ pub fn raise(regs: &mut Regs, byte: bool, src: Src)
 }
 
 /// The odd address that a word access would go to.
+#[inline(always)]
 pub fn odd_access(byte: bool, place: Place) -> Option<u16>
     ensures value { result ≡ odd_of byte place }
     ensures even { IfNone result (IsReachable byte place) }
@@ -93,6 +99,7 @@ pub fn odd_access(byte: bool, place: Place) -> Option<u16>
 }
 
 /// The even address of the word that a byte stands in.
+#[inline(always)]
 pub fn word_address(address: u16) -> u16
     ensures value { result ≡ word_address_of address }
     ensures even { result % 2 ≡ 0 }
@@ -101,6 +108,7 @@ pub fn word_address(address: u16) -> u16
 }
 
 /// The byte at an address in its word.
+#[inline(always)]
 fn byte_of(address: u16, word: u16) -> u16
     ensures value { result ≡ byte_in address word }
     ensures small { result < 256 }
@@ -113,6 +121,7 @@ fn byte_of(address: u16, word: u16) -> u16
 }
 
 /// The word with the byte at an address replaced.
+#[inline(always)]
 pub fn with_byte(address: u16, word: u16, byte: u16) -> u16
     requires { byte < 256 }
     ensures { result ≡ with_byte_of address word byte }
@@ -124,6 +133,7 @@ pub fn with_byte(address: u16, word: u16, byte: u16) -> u16
     }
 }
 
+#[inline(always)]
 fn byte_value<M: Memory>(regs: &Regs, memory: &M, place: Place) -> u16
     requires { IsInside place }
     ensures value { result ≡ value_at true (view_of regs.now.r) (M.words memory.now) place }
@@ -136,6 +146,7 @@ fn byte_value<M: Memory>(regs: &Regs, memory: &M, place: Place) -> u16
     }
 }
 
+#[inline(always)]
 fn word_value<M: Memory>(regs: &Regs, memory: &M, place: Place) -> u16
     requires inside { IsInside place }
     requires reachable { IsReachable false place }
@@ -149,6 +160,7 @@ fn word_value<M: Memory>(regs: &Regs, memory: &M, place: Place) -> u16
 }
 
 /// What stands at a place.
+#[inline(always)]
 pub fn value<M: Memory>(regs: &Regs, memory: &M, byte: bool, place: Place) -> u16
     requires inside { IsInside place }
     requires reachable { IsReachable byte place }

@@ -1,4 +1,4 @@
-ghost use Rattle.std.specs.Prelude.{◌≡◌, ◌/◌, ◌%◌, false, replicate, IfOk};
+ghost use Rattle.std.specs.Prelude.{◌≡◌, ◌/◌, ◌%◌, false, [], replicate, IfOk};
 ghost use Rattle.base16.specs.Memory.{words_of};
 
 use crate::memory::{Denied, Memory};
@@ -42,11 +42,15 @@ impl Memory for PlainMemory {
 
     ghost denied = { λ p a. false };
 
+    ghost lender = { λ p. 0 };
+
+    ghost aside = { λ p. [] };
+
     fn get(&self, address: u16) -> u16 {
         self.words[address as usize / 2]
     }
 
-    #[tactic(auto, using(crate::proofs::PlainLemmas::words_put))]
+    #[tactic(auto, using(base16::proofs::Writes::words_put))]
     fn put(&mut self, address: u16, word: u16) -> Result<(), Denied> {
         self.words[address as usize / 2] = word;
         Ok(())

@@ -4,6 +4,7 @@ ghost use Rattle.core430.specs.Instructions.{flagged};
 
 use base16::Regs;
 
+#[inline(always)]
 pub fn get(regs: &Regs, register: u8) -> u16
     requires { register < 16 }
     ensures { result ≡ view_of regs.now.r register }
@@ -11,6 +12,7 @@ pub fn get(regs: &Regs, register: u8) -> u16
     regs.r[register as usize]
 }
 
+#[inline(always)]
 pub fn set(regs: &mut Regs, register: u8, word: u16)
     requires { register < 16 }
     ensures { view_of regs.new.r ≡ set_reg (view_of regs.old.r) register word }
@@ -19,6 +21,7 @@ pub fn set(regs: &mut Regs, register: u8, word: u16)
 }
 
 /// What an instruction writes to a register: R3 stays as it is.
+#[inline(always)]
 pub fn write(regs: &mut Regs, register: u8, word: u16)
     requires { register < 16 }
     ensures { view_of regs.new.r ≡ write_reg (view_of regs.old.r) register word }
@@ -29,6 +32,7 @@ pub fn write(regs: &mut Regs, register: u8, word: u16)
 }
 
 /// Sets the status register, where the flags change.
+#[inline(always)]
 pub fn flag(regs: &mut Regs, status: Option<u16>)
     ensures { view_of regs.new.r ≡ flagged (view_of regs.old.r) status }
 {

@@ -3,6 +3,7 @@ ghost use Rattle.core430.specs.Status.{with_flags, carry_of, zero_of, negative_o
 
 /// The status with C, Z, N and V replaced.
 #[tactic(auto, unfolding(crate::specs::Status::with_flags))]
+#[inline(always)]
 pub fn with(status: u16, c: bool, z: bool, n: bool, v: bool) -> u16
     ensures { result ≡ with_flags status c z n v }
 {
@@ -14,6 +15,7 @@ pub fn with(status: u16, c: bool, z: bool, n: bool, v: bool) -> u16
 }
 
 #[tactic(auto, unfolding(crate::specs::Status::carry_of))]
+#[inline(always)]
 pub fn carry(status: u16) -> bool
     ensures { result ≡ carry_of status }
 {
@@ -21,6 +23,7 @@ pub fn carry(status: u16) -> bool
 }
 
 #[tactic(auto, unfolding(crate::specs::Status::zero_of))]
+#[inline(always)]
 pub fn zero(status: u16) -> bool
     ensures { result ≡ zero_of status }
 {
@@ -28,6 +31,7 @@ pub fn zero(status: u16) -> bool
 }
 
 #[tactic(auto, unfolding(crate::specs::Status::negative_of))]
+#[inline(always)]
 pub fn negative(status: u16) -> bool
     ensures { result ≡ negative_of status }
 {
@@ -35,6 +39,7 @@ pub fn negative(status: u16) -> bool
 }
 
 #[tactic(auto, unfolding(crate::specs::Status::overflow_of))]
+#[inline(always)]
 pub fn overflow(status: u16) -> bool
     ensures { result ≡ overflow_of status }
 {
@@ -43,6 +48,7 @@ pub fn overflow(status: u16) -> bool
 
 /// Whether CPUOFF is set.
 #[tactic(auto, unfolding(crate::specs::Status::is_off))]
+#[inline(always)]
 pub fn off(status: u16) -> bool
     ensures { result ≡ is_off status }
 {

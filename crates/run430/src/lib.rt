@@ -7,6 +7,3 @@ mod running;
 
 pub use laws::{code_is_placed, run_is_steps, runs_compose};
 pub use running::run;
-
-#[cfg(test)]
-mod tests;

@@ -1,7 +1,7 @@
-ghost use Rattle.std.specs.Prelude.{◌<◌, ◌^◌, nat_lt};
+ghost use Rattle.std.specs.Prelude.{◌<◌, ◌^◌, [], nat_lt};
 
-use super::*;
 use base16::{NoMemory, Regs};
+use core430::{Denied, Memory, PlainMemory, Stepped, step};
 use std::alloc::Global;
 use std::test::Fail;
 
@@ -429,6 +429,10 @@ impl Memory for Guarded {
     ghost words = { λ g. words_of g.plain };
 
     ghost denied = { λ g a. nat_lt a 16384 };
+
+    ghost lender = { λ g. 0 };
+
+    ghost aside = { λ g. [] };
 
     fn get(&self, address: u16) -> u16 {
         self.plain.get(address)
