@@ -21,9 +21,15 @@ pub close_more : (xs : Text) (i d last : ℕ) → i < length xs → ends_here la
     → shifted i (close last (drop i xs)) ≡ shifted (i + 1) (close (get_or xs i d) (drop (i + 1) xs))
 close_more xs i d last h e =
     let n : suc i ≡ i + 1 = omega arith in
-    ap (λ t. shifted i (close last t)) (drop-cons xs i d h) ∙ (rw (close_later last (get_or xs i d) (drop (suc i) xs) e, shifted-suc i (close (get_or xs i d) (drop (suc i) xs)), n) refl)
+    ap (λ t. shifted i (close last t)) (drop-cons xs i d h)
+    ∙ (rw (
+      close_later last (get_or xs i d) (drop (suc i) xs) e,
+      shifted-suc i (close (get_or xs i d) (drop (suc i) xs)),
+      n,
+    ) refl)
 
-pub close_stops : (xs : Text) (i d last : ℕ) → i < length xs → ends_here last (get_or xs i d) ≡ true → shifted i (close last (drop i xs)) ≡ Some (i + 1)
+pub close_stops : (xs : Text) (i d last : ℕ) → i < length xs → ends_here last (get_or xs i d) ≡ true
+    → shifted i (close last (drop i xs)) ≡ Some (i + 1)
 close_stops xs i d last h t =
     ap (λ t. shifted i (close last t)) (drop-cons xs i d h) ∙ (rw (close_here last (get_or xs i d) (drop (suc i) xs) t) refl)
 
@@ -39,8 +45,10 @@ follows_more xs i d h e f =
 pub follows_here : (xs : Text) (i d : ℕ) → i < length xs → is_digit (get_or xs i d) ≡ true → digit_follows (drop i xs) ≡ true
 follows_here xs i d h e = ap digit_follows (drop-cons xs i d h) ∙ (rw (follows-cons (get_or xs i d) (drop (suc i) xs), e) refl)
 
-pub follows_stops : (xs : Text) (i d : ℕ) → i < length xs → is_digit (get_or xs i d) ≡ false → is_line_blank (get_or xs i d) ≡ false → digit_follows (drop i xs) ≡ false
-follows_stops xs i d h e f = ap digit_follows (drop-cons xs i d h) ∙ (rw (follows-cons (get_or xs i d) (drop (suc i) xs), e, f) refl)
+pub follows_stops : (xs : Text) (i d : ℕ) → i < length xs → is_digit (get_or xs i d) ≡ false
+    → is_line_blank (get_or xs i d) ≡ false → digit_follows (drop i xs) ≡ false
+follows_stops xs i d h e f = ap digit_follows (drop-cons xs i d h)
+    ∙ (rw (follows-cons (get_or xs i d) (drop (suc i) xs), e, f) refl)
 
 pub follows_ends : (xs : Text) (i : ℕ) → length xs ≤ i → digit_follows (drop i xs) ≡ false
 follows_ends xs i h = rw (drop_all i xs h) follows_nil
@@ -56,7 +64,8 @@ below : (p : Text → Bool) (n : ℕ) (text : Text) → p (take (suc n) text) �
 unfolding greatest
 below p n text e = rw e refl
 
-pub greatest_below : (p : Text → Bool) (n : ℕ) (text : Text) → 0 < n → p (take n text) ≡ false → greatest p n text ≡ greatest p (n - 1) text
+pub greatest_below : (p : Text → Bool) (n : ℕ) (text : Text) → 0 < n → p (take n text) ≡ false
+    → greatest p n text ≡ greatest p (n - 1) text
 greatest_below p zero text h e = absurd (omega arith)
 greatest_below p (suc n) text h e = let z : suc n - 1 ≡ n = omega arith in below p n text e ∙ ap (λ k. greatest p k text) (sym z)
 

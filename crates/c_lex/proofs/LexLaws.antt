@@ -21,7 +21,11 @@ no_longer : {fresh : Bool} {text : Text} {n k : ℕ} {i j : Item} → Longest fr
 no_longer a b h = let e = a.longest _ h b.within in let f = b.is in cc
 
 same_length : {fresh : Bool} {text : Text} {n k : ℕ} {i j : Item} → Longest fresh text n i → Longest fresh text k j → n ≡ k
-same_length {n} {k} a b = elim (cases_order n k) [ inl e ↦ e | inr o ↦ elim o [ inl h ↦ absurd (no_longer a b h) | inr h ↦ absurd (no_longer b a h) ] ]
+same_length {n} {k} a b = elim (cases_order n k) [
+  | inl e ↦ e
+  | inr o ↦
+      elim o [ inl h ↦ absurd (no_longer a b h) | inr h ↦ absurd (no_longer b a h) ]
+]
 
 same_item : {fresh : Bool} {text : Text} {n k : ℕ} {i j : Item} → Longest fresh text n i → Longest fresh text k j → i ≡ j
 same_item {fresh} {text} a b = let e = ap (λ n. piece fresh (take n text)) (same_length a b) in let f = a.is in let g = b.is in cc
@@ -30,7 +34,8 @@ not_stuck : {fresh : Bool} {text : Text} {n : ℕ} {i : Item} → Longest fresh 
 not_stuck a h = let e = h _ a.within in let f = a.is in cc
 
 -- no piece begins at the end
-not_at_end : (source : Text) (at : ℕ) {n : ℕ} {i : Item} → length source ≤ at → Longest (fresh_at source at) (drop at source) n i → ⊥
+not_at_end : (source : Text) (at : ℕ) {n : ℕ} {i : Item} → length source ≤ at
+    → Longest (fresh_at source at) (drop at source) n i → ⊥
 not_at_end source at h m = let p = positive m in absurd (omega (arith, m.within, length-drop at source))
 
 module _ {source : Text} where
@@ -75,17 +80,20 @@ module _ {source : Text} where
   refuses_one (stuck some h) (behind_skip b r) = absurd (not_stuck b h)
   refuses_one (stuck some h) (behind_token b r) = absurd (not_stuck b h)
   refuses_one (broken a) (stuck some h) = absurd (not_stuck a h)
-  refuses_one {at} (broken {f = x} a) (broken {f = y} b) = let z : x ≡ y = (let w = same_item a b in cc) in ap (λ f. refusal f at) z
+  refuses_one {at} (broken {f = x} a) (broken {f = y} b) = let z : x ≡ y = (let w = same_item a b in cc) in
+      ap (λ f. refusal f at) z
   refuses_one (broken a) (behind_skip b r) = let z = same_item a b in cc
   refuses_one (broken a) (behind_token b r) = let z = same_item a b in cc
   refuses_one (behind_skip a q) (stuck some h) = absurd (not_stuck a h)
   refuses_one (behind_skip a q) (broken b) = let z = same_item a b in cc
-  refuses_one {at} {f} (behind_skip a q) (behind_skip b r) = refuses_one q (subst (λ n. Refuses source (at + n) f) (same_length b a) r)
+  refuses_one {at} {f} (behind_skip a q) (behind_skip b r) =
+      refuses_one q (subst (λ n. Refuses source (at + n) f) (same_length b a) r)
   refuses_one (behind_skip a q) (behind_token b r) = let z = same_item a b in cc
   refuses_one (behind_token a q) (stuck some h) = absurd (not_stuck a h)
   refuses_one (behind_token a q) (broken b) = let z = same_item a b in cc
   refuses_one (behind_token a q) (behind_skip b r) = let z = same_item a b in cc
-  refuses_one {at} {f} (behind_token a q) (behind_token b r) = refuses_one q (subst (λ n. Refuses source (at + n) f) (same_length b a) r)
+  refuses_one {at} {f} (behind_token a q) (behind_token b r) =
+      refuses_one q (subst (λ n. Refuses source (at + n) f) (same_length b a) r)
 
 -- ---- what the lexer has reached
 
@@ -103,10 +111,13 @@ pub data Turn (source : Text) (at n : ℕ) : Result (List AToken) LexErr → Typ
   ended : {e : LexErr} → Refuses source 0 e → Turn source at n (Err e)
 
 module _ (source : Text) (at : ℕ) (found : List AToken) (r : Reached source at found) (some : at < length source) where
-  item_turn : (n : ℕ) (item : Item) → Longest (fresh_at source at) (drop at source) n item → Turn source at n (kept (Some item) at (at + n) (line_at source at) found)
-  item_turn n Skip m = went (positive m) (record { lexes = λ ts l. r.lexes ts (skip m l); refuses = λ e f. r.refuses e (behind_skip m f) })
+  item_turn : (n : ℕ) (item : Item) → Longest (fresh_at source at) (drop at source) n item
+      → Turn source at n (kept (Some item) at (at + n) (line_at source at) found)
+  item_turn n Skip m = went (positive m)
+      (record { lexes = λ ts l. r.lexes ts (skip m l); refuses = λ e f. r.refuses e (behind_skip m f) })
   item_turn n (Token kind) m = went (positive m) (record {
-    lexes = λ ts l. subst (Lexes source 0) (sym (append_assoc found (token_at source at n kind ∷ []) ts)) (r.lexes (token_at source at n kind ∷ ts) (one m l));
+    lexes = λ ts l. subst (Lexes source 0) (sym (append_assoc found (token_at source at n kind ∷ []) ts))
+        (r.lexes (token_at source at n kind ∷ ts) (one m l));
     refuses = λ e f. r.refuses e (behind_token m f);
   })
   item_turn n (Bad f) m = ended (r.refuses (refusal f at) (broken m))
@@ -118,7 +129,8 @@ module _ (source : Text) (at : ℕ) (found : List AToken) (r : Reached source at
 
   pub next_turn : (n : ℕ) → n ≡ piece_len (fresh_at source at) (drop at source)
       → Turn source at n (kept (piece (fresh_at source at) (take n (drop at source))) at (at + n) (line_at source at) found)
-  next_turn n e = turn n (subst (Measured (fresh_at source at) (drop at source)) (sym e) (is_measured (fresh_at source at) (drop at source)))
+  next_turn n e = turn n (subst (Measured (fresh_at source at) (drop at source)) (sym e)
+      (is_measured (fresh_at source at) (drop at source)))
 
 turn_on : {source : Text} {at n : ℕ} {ts : List AToken} → Turn source at n (Ok ts) → (0 < n) × Reached source (at + n) ts
 turn_on (went p r) = (p, r)
@@ -127,28 +139,39 @@ turn_off : {source : Text} {at n : ℕ} {e : LexErr} → Turn source at n (Err e
 turn_off (ended r) = r
 
 -- a turn that went on
-pub goes_on : {source : Text} {at n : ℕ} {o : Result (List AToken) LexErr} {ts : List AToken} → Turn source at n o → o ≡ Ok ts → (0 < n) × Reached source (at + n) ts
+pub goes_on : {source : Text} {at n : ℕ} {o : Result (List AToken) LexErr} {ts : List AToken} → Turn source at n o → o ≡ Ok ts
+    → (0 < n) × Reached source (at + n) ts
 goes_on {source} {at} {n} t e = turn_on (subst (Turn source at n) e t)
 
 -- a turn that ended
-pub ends : {source : Text} {at n : ℕ} {o : Result (List AToken) LexErr} {e : LexErr} → Turn source at n o → o ≡ Err e → Refuses source 0 e
+pub ends : {source : Text} {at n : ℕ} {o : Result (List AToken) LexErr} {e : LexErr} → Turn source at n o → o ≡ Err e
+    → Refuses source 0 e
 ends {source} {at} {n} t e = turn_off (subst (Turn source at n) e t)
 
 -- ---- each source is tokens or has a refusal
 
-decides_by : (source : Text) (at n : ℕ) (item : Item) → Longest (fresh_at source at) (drop at source) n item → (0 < n → IsDecided source (at + n)) → IsDecided source at
-decides_by source at n Skip m next = elim (next (positive m)) [ inl x ↦ inl (x.0, skip m x.1) | inr x ↦ inr (x.0, behind_skip m x.1) ]
-decides_by source at n (Token kind) m next = elim (next (positive m)) [ inl x ↦ inl (token_at source at n kind ∷ x.0, one m x.1) | inr x ↦ inr (x.0, behind_token m x.1) ]
+decides_by : (source : Text) (at n : ℕ) (item : Item) → Longest (fresh_at source at) (drop at source) n item
+    → (0 < n → IsDecided source (at + n)) → IsDecided source at
+decides_by source at n Skip m next =
+    elim (next (positive m)) [ inl x ↦ inl (x.0, skip m x.1) | inr x ↦ inr (x.0, behind_skip m x.1) ]
+decides_by source at n (Token kind) m next =
+    elim (next (positive m)) [
+      | inl x ↦ inl (token_at source at n kind ∷ x.0, one m x.1)
+      | inr x ↦
+          inr (x.0, behind_token m x.1)
+    ]
 decides_by source at n (Bad f) m next = inr (refusal f at, broken m)
 
-decides_at : (source : Text) (at n : ℕ) → Measured (fresh_at source at) (drop at source) n → at < length source → (0 < n → IsDecided source (at + n)) → IsDecided source at
+decides_at : (source : Text) (at n : ℕ) → Measured (fresh_at source at) (drop at source) n → at < length source
+    → (0 < n → IsDecided source (at + n)) → IsDecided source at
 decides_at source at n (nowhere h) some next = inr (_, stuck some h)
 decides_at source at n (measured {item} p m) some next = decides_by source at n item m next
 
 decides_from : (turns : ℕ) (source : Text) (at : ℕ) → length source ≤ at + turns → IsDecided source at
 decides_from zero source at h = inl ([], done (omega arith))
 decides_from (suc turns) source at h = elim (cases_lt at (length source)) [
-  | inl some ↦ decides_at source at _ (is_measured (fresh_at source at) (drop at source)) some (λ p. decides_from turns source (at + piece_len (fresh_at source at) (drop at source)) (omega arith))
+  | inl some ↦ decides_at source at _ (is_measured (fresh_at source at) (drop at source)) some
+      (λ p. decides_from turns source (at + piece_len (fresh_at source at) (drop at source)) (omega arith))
   | inr past ↦ inl ([], done past)
 ]
 

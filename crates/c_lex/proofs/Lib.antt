@@ -1,6 +1,7 @@
 pub mod Closing
 pub mod Fronts
 pub mod LexLaws
+pub mod Listed
 pub mod Measured
 pub mod Outcome
 pub mod Shorts

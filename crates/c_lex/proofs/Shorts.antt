@@ -7,7 +7,7 @@ use Rattle.std.proofs.lemmas.Slice.Eq.{bytes_eq-Decides}
 use Rattle.std.proofs.lemmas.Bool.{eqb-true, lt-leb, leb-true}
 use Rattle.c_lex.specs.declared.item.Item.TheVariants.{Bad}
 use Rattle.c_lex.specs.declared.item.Fault.TheVariants as fault
-use Rattle.c_lex.specs.declared.spelling.TheConstants.{NOTES, MARKS}
+use Rattle.c_lex.specs.Spelling.{notes, marks}
 use Rattle.c_lex.specs.Spelling.{Text, note_text, mark_text, note_of, mark_of}
 use Rattle.c_lex.specs.Bytes.{value}
 use Rattle.c_lex.specs.Pieces.{short, quoted, character, character_item, escaped, code, note_item, mark_item}
@@ -24,11 +24,13 @@ greatest_zero : (p : Text → Bool) (text : Text) → Greatest p 0 text (greates
 unfolding greatest
 greatest_zero p text = record { within = omega arith; passes = inl refl; above = λ k h w. absurd (omega arith) }
 
-greatest_step : (p : Text → Bool) (n : ℕ) (text : Text) → greatest p (suc n) text ≡ cond (p (take (suc n) text)) (suc n) (greatest p n text)
+greatest_step : (p : Text → Bool) (n : ℕ) (text : Text)
+    → greatest p (suc n) text ≡ cond (p (take (suc n) text)) (suc n) (greatest p n text)
 unfolding greatest
 greatest_step p n text = refl
 
-above_more : (p : Text → Bool) (n m : ℕ) (text : Text) → p (take (suc n) text) ≡ false → ((k : ℕ) → m < k → k ≤ n → p (take k text) ≡ false)
+above_more : (p : Text → Bool) (n m : ℕ) (text : Text) → p (take (suc n) text) ≡ false
+    → ((k : ℕ) → m < k → k ≤ n → p (take k text) ≡ false)
     → (k : ℕ) → (k ≡ suc n) ⊎ (k ≤ n) → m < k → p (take k text) ≡ false
 above_more p n m text e below k (inl h) w = rw h e
 above_more p n m text e below k (inr h) w = below k w h
@@ -38,7 +40,8 @@ last_or_below zero n h = inr (omega arith)
 last_or_below (suc k) zero h = inl (omega arith)
 last_or_below (suc k) (suc n) h = elim (last_or_below k n (omega arith)) [ inl e ↦ inl (omega arith) | inr e ↦ inr (omega arith) ]
 
-greatest_by : (p : Text → Bool) (n : ℕ) (text : Text) (b : Bool) → p (take (suc n) text) ≡ b → Greatest p n text (greatest p n text)
+greatest_by : (p : Text → Bool) (n : ℕ) (text : Text) (b : Bool) → p (take (suc n) text) ≡ b
+    → Greatest p n text (greatest p n text)
     → Greatest p (suc n) text (cond b (suc n) (greatest p n text))
 greatest_by p n text true e g = record { within = omega arith; passes = inr e; above = λ k h w. absurd (omega arith) }
 greatest_by p n text false e g = record {
@@ -49,7 +52,8 @@ greatest_by p n text false e g = record {
 
 pub greatest_is : (p : Text → Bool) (n : ℕ) (text : Text) → Greatest p n text (greatest p n text)
 greatest_is p zero text = greatest_zero p text
-greatest_is p (suc n) text = rw (greatest_step p n text) (greatest_by p n text (p (take (suc n) text)) refl (greatest_is p n text))
+greatest_is p (suc n) text = rw (greatest_step p n text)
+    (greatest_by p n text (p (take (suc n) text)) refl (greatest_is p n text))
 
 -- ---- what is looked up in a table of short texts
 
@@ -65,7 +69,8 @@ and_right : (a b : Bool) → a && b ≡ true → b ≡ true
 and_right true b h = h
 and_right false b h = absurd (cc)
 
-find_none : {X : Type 0} (text : X → Text) (n : ℕ) (t : Text) (xs : List X) → n < length t → list_all (λ x. nat_le (length (text x)) n) xs ≡ true
+find_none : {X : Type 0} (text : X → Text) (n : ℕ) (t : Text) (xs : List X) → n < length t
+    → list_all (λ x. nat_le (length (text x)) n) xs ≡ true
     → find (λ x. bytes_eq (text x) t) xs ≡ None
 find_none text n t [] long all = refl
 find_none text n t (x ∷ xs) long all =
@@ -75,11 +80,11 @@ find_none text n t (x ∷ xs) long all =
 
 long_note : (t : Text) → 14 < length t → note_of t ≡ None
 unfolding note_of
-long_note t h = find_none note_text 14 t NOTES h refl
+long_note t h = find_none note_text 14 t notes h refl
 
 long_mark : (t : Text) → 3 < length t → mark_of t ≡ None
 unfolding mark_of
-long_mark t h = find_none mark_text 3 t MARKS h refl
+long_mark t h = find_none mark_text 3 t marks h refl
 
 -- ---- characters
 
@@ -114,7 +119,8 @@ long_character (c ∷ d ∷ more) h = behind (c == 92) (long_escape (d ∷ more)
     behind false e = refl
 
 long_quoted : (t : Text) → 6 ≤ length t → quoted t ≡ None
-long_quoted t h = at (length t == 0) (slice_index t (length t - 1) == 39) refl (long_character (take (length t - 1) t) (omega (arith, length-take-le (length t - 1) t)))
+long_quoted t h = at (length t == 0) (slice_index t (length t - 1) == 39) refl
+    (long_character (take (length t - 1) t) (omega (arith, length-take-le (length t - 1) t)))
   where
     at : (a b : Bool) → (length t == 0) ≡ a → character (take (length t - 1) t) ≡ None
         → cond a (Some (Bad fault.BadChar)) (cond b (character_item (character (take (length t - 1) t))) None) ≡ None
@@ -135,7 +141,8 @@ pub long_short : (a : ℕ) (more : Text) → most a < length (a ∷ more) → sh
 unfolding short
 long_short a more h = by (a == 39) (a == 64) h
   where
-    by : (q n : Bool) → cond q 6 (cond n 14 3) < length (a ∷ more) → cond q (quoted more) (cond n (note_item (note_of (a ∷ more))) (mark_item (mark_of (a ∷ more)))) ≡ None
+    by : (q n : Bool) → cond q 6 (cond n 14 3) < length (a ∷ more)
+        → cond q (quoted more) (cond n (note_item (note_of (a ∷ more))) (mark_item (mark_of (a ∷ more)))) ≡ None
     by true n h = long_quoted more (omega arith)
     by false true h = note_none (a ∷ more) (long_note (a ∷ more) h)
     by false false h = mark_none (a ∷ more) (long_mark (a ∷ more) h)

@@ -14,7 +14,7 @@ use Rattle.c_lex.specs.declared.token.Mark.{Mark as AMark}
 use Rattle.c_lex.specs.declared.item.Item.{Item}
 use Rattle.c_lex.specs.declared.item.Item.TheVariants.{Skip, Token, Bad}
 use Rattle.c_lex.specs.declared.item.Fault.TheVariants as fault
-use Rattle.c_lex.specs.declared.spelling.TheConstants.{KEYWORDS, NOTES, MARKS}
+use Rattle.c_lex.specs.Spelling.{keywords, notes, marks}
 use Rattle.c_lex.specs.Spelling.{Text, keyword_text, note_text, mark_text, keyword_of, note_of, mark_of}
 use Rattle.c_lex.specs.Bytes.{is_letter, is_digit, is_blank, continues, in_line, value}
 use Rattle.c_lex.specs.Pieces.{piece, word_kind, word, numeral, constant, number, quoted, character, character_item, note_item, mark_item, short, comment, close, slash, marker}
@@ -24,25 +24,28 @@ use Rattle.c_lex.proofs.LexLaws.{positive}
 -- ---- what is looked up in a table is written so
 
 found_at : {X : Type 0} (text : X → Text) (t : Text) (y x : X) (xs : List X) (b : Bool) → bytes_eq (text y) t ≡ b
-    → (find (λ x. bytes_eq (text x) t) xs ≡ Some x → text x ≡ t) → cond b (Some y) (find (λ x. bytes_eq (text x) t) xs) ≡ Some x → text x ≡ t
-found_at text t y x xs true e next is = let same : y ≡ x = (cc) in subst (λ z. text z ≡ t) same ((bytes_eq-Decides (text y) t).0 e)
+    → (find (λ x. bytes_eq (text x) t) xs ≡ Some x → text x ≡ t)
+    → cond b (Some y) (find (λ x. bytes_eq (text x) t) xs) ≡ Some x → text x ≡ t
+found_at text t y x xs true e next is = let same : y ≡ x = (cc) in
+    subst (λ z. text z ≡ t) same ((bytes_eq-Decides (text y) t).0 e)
 found_at text t y x xs false e next is = next is
 
-found_text : {X : Type 0} (text : X → Text) (t : Text) (x : X) (xs : List X) → find (λ x. bytes_eq (text x) t) xs ≡ Some x → text x ≡ t
+found_text : {X : Type 0} (text : X → Text) (t : Text) (x : X) (xs : List X) → find (λ x. bytes_eq (text x) t) xs ≡ Some x
+    → text x ≡ t
 found_text text t x [] is = cc
 found_text text t x (y ∷ xs) is = found_at text t y x xs (bytes_eq (text y) t) refl (λ e. found_text text t x xs e) is
 
 keyword_written : (t : Text) (x : AKeyword) → keyword_of t ≡ Some x → keyword_text x ≡ t
 unfolding keyword_of
-keyword_written t x e = found_text keyword_text t x KEYWORDS e
+keyword_written t x e = found_text keyword_text t x keywords e
 
 note_written : (t : Text) (x : ANote) → note_of t ≡ Some x → note_text x ≡ t
 unfolding note_of
-note_written t x e = found_text note_text t x NOTES e
+note_written t x e = found_text note_text t x notes e
 
 mark_written : (t : Text) (x : AMark) → mark_of t ≡ Some x → mark_text x ≡ t
 unfolding mark_of
-mark_written t x e = found_text mark_text t x MARKS e
+mark_written t x e = found_text mark_text t x marks e
 
 -- ---- a piece that is a token is written as that token is
 
@@ -75,7 +78,8 @@ constant_written : (t : Text) (u : Bool) (digits : Text) → Written t (Some (co
 constant_written t u [] = tt
 constant_written t u (a ∷ []) = numeral_written t 10 true u (a ∷ [])
 constant_written t u (a ∷ b ∷ more) =
-    two_ways t (a == 48) _ _ (two_ways t _ _ _ (numeral_written t 16 false u more) (numeral_written t 8 false u (a ∷ b ∷ more))) (numeral_written t 10 true u (a ∷ b ∷ more))
+    two_ways t (a == 48) _ _ (two_ways t _ _ _ (numeral_written t 16 false u more)
+    (numeral_written t 8 false u (a ∷ b ∷ more))) (numeral_written t 10 true u (a ∷ b ∷ more))
 
 number_written : (t u : Text) → Written t (Some (number u))
 number_written t u = two_ways t _ _ _ (constant_written t true (take (length u - 1) u)) (constant_written t false u)
@@ -112,7 +116,8 @@ unfolding short
 short_written [] = tt
 short_written (a ∷ more) =
     either (a ∷ more) (a == 39) _ _ (quoted_written (a ∷ more) more)
-    (either (a ∷ more) (a == 64) _ _ (note_by (a ∷ more) (note_of (a ∷ more)) refl) (mark_by (a ∷ more) (mark_of (a ∷ more)) refl))
+    (either (a ∷ more) (a == 64) _ _ (note_by (a ∷ more) (note_of (a ∷ more)) refl)
+    (mark_by (a ∷ more) (mark_of (a ∷ more)) refl))
 
 comment_by : (t : Text) (o : Option ℕ) (n : ℕ) → Written t (comment o n)
 comment_by t None n = tt
@@ -152,7 +157,8 @@ slice_is source at n = let e : at + n - at ≡ n = omega arith in ap (λ k. take
 pub slices : {source : Text} {at : ℕ} {ts : List AToken} → Lexes source at ts → AreSlices source ts
 slices (done h) = tt
 slices (skip m l) = slices l
-slices {source} {at} (one {n} {kind} m l) = (subst (IsWritten kind) (sym (slice_is source at n)) (token_written _ _ kind m.is), slices l)
+slices {source} {at} (one {n} {kind} m l) =
+    (subst (IsWritten kind) (sym (slice_is source at n)) (token_written _ _ kind m.is), slices l)
 
 pub counted : {source : Text} {at : ℕ} {ts : List AToken} → Lexes source at ts → AreCounted source ts
 counted (done h) = tt
@@ -169,4 +175,5 @@ end_within source at n p h = omega (arith, length-drop at source)
 pub in_order : {source : Text} {at : ℕ} {ts : List AToken} → Lexes source at ts → InOrder source at ts
 in_order (done h) = tt
 in_order {source} {at} {ts} (skip {n} m l) = earlier source at (at + n) ts (omega arith) (in_order l)
-in_order {source} {at} (one {n} m l) = let p = positive m in (omega arith, omega arith, end_within source at n p m.within, in_order l)
+in_order {source} {at} (one {n} m l) = let p = positive m in
+    (omega arith, omega arith, end_within source at n p m.within, in_order l)

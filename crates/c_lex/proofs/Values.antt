@@ -21,4 +21,10 @@ value_push base xs x = fold-append (λ n b. base * n + digit_value b) 0 xs (x �
 pub value_more : (base : ℕ) (xs : Text) (i : ℕ) (d n : ℕ) → 2 ≤ base → i < length xs → n ≡ min (value base (take i xs)) 65536
     → min (value base (take (i + 1) xs)) 65536 ≡ min (base * n + digit_value (get_or xs i d)) 65536
 value_more base xs i d n h w e =
-    ap (λ t. min (value base t) 65536) (take_more xs i d w) ∙ (rw (value_push base (take i xs) (get_or xs i d), e, cut base (value base (take i xs)) (digit_value (get_or xs i d)) h (cases_lt (value base (take i xs)) 65536)) refl)
+    ap (λ t. min (value base t) 65536) (take_more xs i d w)
+    ∙ (rw (
+      value_push base (take i xs) (get_or xs i d),
+      e,
+      cut base (value base (take i xs)) (digit_value (get_or xs i d))
+          h (cases_lt (value base (take i xs)) 65536),
+    ) refl)

@@ -64,7 +64,8 @@ simple_escape e =
 -- at least one and at most so many digits
 abbrev pub code : (base most : ℕ) → Text → Option ℕ
 code base most digits =
-    if not (length digits == 0) && nat_le (length digits) most && list_all (is_digit_of base) digits && nat_le (value base digits) 255
+    if not (length digits == 0) && nat_le (length digits) most && list_all (is_digit_of base) digits && nat_le
+    (value base digits) 255
     then Some (value base digits) else None
 
 -- what stands behind the backslash: a letter or a mark, `x` and one or two hexadecimal digits, or one to three octal digits

@@ -1,5 +1,5 @@
 -- How each keyword, annotation and mark is written, and which one a text is.
-use Rattle.std.specs.Prelude.{ℕ, List, Option, find, codes}
+use Rattle.std.specs.Prelude.{◌≡◌, ℕ, List, [], ◌∷◌, Option, Some, find, codes}
 use Rattle.std.specs.Str.{bytes_eq}
 use Rattle.c_lex.specs.declared.token.Keyword.{Keyword}
 use Rattle.c_lex.specs.declared.token.Keyword.TheVariants as w
@@ -7,7 +7,6 @@ use Rattle.c_lex.specs.declared.token.Note.{Note}
 use Rattle.c_lex.specs.declared.token.Note.TheVariants as n
 use Rattle.c_lex.specs.declared.token.Mark.{Mark}
 use Rattle.c_lex.specs.declared.token.Mark.TheVariants as m
-use Rattle.c_lex.specs.declared.spelling.TheConstants.{KEYWORDS, NOTES, MARKS}
 
 -- a string of bytes
 abbrev pub Text : Type 0
@@ -108,14 +107,46 @@ mark_text m.AmpersandAssign = codes "&="
 mark_text m.CaretAssign = codes "^="
 mark_text m.BarAssign = codes "|="
 
+-- ---- all of them
+
+abbrev pub keywords : List Keyword
+keywords =
+    w.Auto ∷ w.Break ∷ w.Case ∷ w.Char ∷ w.Const ∷ w.Continue ∷ w.Default ∷ w.Do ∷ w.Double ∷ w.Else ∷ w.Enum
+    ∷ w.Extern ∷ w.Float ∷ w.For ∷ w.Goto ∷ w.If ∷ w.Inline ∷ w.Int ∷ w.Long ∷ w.Register ∷ w.Restrict
+    ∷ w.Return ∷ w.Short ∷ w.Signed ∷ w.Sizeof ∷ w.Static ∷ w.Struct ∷ w.Switch ∷ w.Typedef ∷ w.Union
+    ∷ w.Unsigned ∷ w.Void ∷ w.Volatile ∷ w.While ∷ w.Bool ∷ w.Complex ∷ w.Imaginary ∷ []
+
+abbrev pub notes : List Note
+notes =
+    n.ExpiresAfter ∷ n.Expires ∷ n.Timely ∷ n.StampedAssign ∷ []
+
+abbrev pub marks : List Mark
+marks =
+    m.LeftBrace ∷ m.RightBrace ∷ m.LeftParen ∷ m.RightParen ∷ m.LeftBracket ∷ m.RightBracket ∷ m.Semicolon
+    ∷ m.Comma ∷ m.Dot ∷ m.Arrow ∷ m.PlusPlus ∷ m.MinusMinus ∷ m.Ampersand ∷ m.Star ∷ m.Plus ∷ m.Minus ∷ m.Tilde
+    ∷ m.Exclamation ∷ m.Slash ∷ m.Percent ∷ m.ShiftLeft ∷ m.ShiftRight ∷ m.Less ∷ m.Greater ∷ m.LessEqual
+    ∷ m.GreaterEqual ∷ m.EqualEqual ∷ m.NotEqual ∷ m.Caret ∷ m.Bar ∷ m.AndAnd ∷ m.OrOr ∷ m.Question ∷ m.Colon
+    ∷ m.Assign ∷ m.StarAssign ∷ m.SlashAssign ∷ m.PercentAssign ∷ m.PlusAssign ∷ m.MinusAssign
+    ∷ m.ShiftLeftAssign ∷ m.ShiftRightAssign ∷ m.AmpersandAssign ∷ m.CaretAssign ∷ m.BarAssign ∷ []
+
 -- the keyword that is written so
 unfoldable pub keyword_of : Text → Option Keyword
-keyword_of t = find (λ x. bytes_eq (keyword_text x) t) KEYWORDS
+keyword_of t = find (λ x. bytes_eq (keyword_text x) t) keywords
 
 -- the annotation that is written so
 unfoldable pub note_of : Text → Option Note
-note_of t = find (λ x. bytes_eq (note_text x) t) NOTES
+note_of t = find (λ x. bytes_eq (note_text x) t) notes
 
 -- the mark that is written so
 unfoldable pub mark_of : Text → Option Mark
-mark_of t = find (λ x. bytes_eq (mark_text x) t) MARKS
+mark_of t = find (λ x. bytes_eq (mark_text x) t) marks
+
+-- each keyword, annotation and mark is the one that its text is read as
+abbrev pub AreKeywordsRead : Type 0
+AreKeywordsRead = (x : Keyword) → keyword_of (keyword_text x) ≡ Some x
+
+abbrev pub AreNotesRead : Type 0
+AreNotesRead = (x : Note) → note_of (note_text x) ≡ Some x
+
+abbrev pub AreMarksRead : Type 0
+AreMarksRead = (x : Mark) → mark_of (mark_text x) ≡ Some x

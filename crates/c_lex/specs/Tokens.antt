@@ -1,5 +1,5 @@
 -- The tokens that a source is, and the first place where it is none.
-use Rattle.std.specs.Prelude.{◌≡◌, ℕ, ◌+◌, ◌<◌, ◌≤◌, Bool, true, ◌&&◌, ◌||◌, ◌==◌, ◌⊎◌, List, [], ◌∷◌, length, take, drop, fold, count_by, slice_range}
+use Rattle.std.specs.Prelude.{◌≡◌, ℕ, ◌+◌, ◌-◌, ◌<◌, ◌≤◌, min, Option, Some, None, Bool, true, ◌&&◌, ◌||◌, ◌==◌, ◌⊎◌, List, [], ◌∷◌, length, take, drop, fold, count_by, slice_get, slice_range}
 use Rattle.c_lex.specs.declared.token.Token.{Token as AToken}
 use Rattle.c_lex.specs.declared.token.TokenKind.{TokenKind}
 use Rattle.c_lex.specs.declared.token.TokenKind.TheVariants.{Word, Keyword, Number, Char, Note, Mark}
@@ -32,11 +32,14 @@ fresh_at source at = blank_after true (take at source)
 abbrev pub token_at : Text → (at n : ℕ) → TokenKind → AToken
 token_at source at n kind = record { kind = kind; start = at; end = at + n; line = line_at source at }
 
--- From a place on the source is these tokens: at each place the longest piece is taken; blanks, comments and line markers are skipped.
+-- From a place on the source is these tokens: at each place the longest piece is taken; blanks, comments and line
+-- markers are skipped.
 pub data Lexes (source : Text) : ℕ → List AToken → Type 0 where
   done : {at : ℕ} → length source ≤ at → Lexes source at []
-  skip : {at n : ℕ} {ts : List AToken} → Longest (fresh_at source at) (drop at source) n Skip → Lexes source (at + n) ts → Lexes source at ts
-  one : {at n : ℕ} {kind : TokenKind} {ts : List AToken} → Longest (fresh_at source at) (drop at source) n (Token kind) → Lexes source (at + n) ts
+  skip : {at n : ℕ} {ts : List AToken} → Longest (fresh_at source at) (drop at source) n Skip → Lexes source (at + n) ts
+      → Lexes source at ts
+  one : {at n : ℕ} {kind : TokenKind} {ts : List AToken} → Longest (fresh_at source at) (drop at source) n (Token kind)
+      → Lexes source (at + n) ts
       → Lexes source at (token_at source at n kind ∷ ts)
 
 -- how a fault is answered
@@ -45,17 +48,30 @@ refusal fault.OpenComment at = OpenComment at
 refusal fault.BadNumber at = BadNumber at
 refusal fault.BadChar at = BadChar at
 
--- From a place on the source is no tokens: behind pieces that are read there is a place where no piece begins, or one that is none.
+-- From a place on the source is no tokens: behind pieces that are read there is a place where no piece begins, or one
+-- that is none.
 pub data Refuses (source : Text) : ℕ → LexErr → Type 0 where
   stuck : {at : ℕ} → at < length source → Stuck (fresh_at source at) (drop at source) → Refuses source at (BadByte at)
   broken : {at n : ℕ} {f : Fault} → Longest (fresh_at source at) (drop at source) n (Bad f) → Refuses source at (refusal f at)
-  behind_skip : {at n : ℕ} {e : LexErr} → Longest (fresh_at source at) (drop at source) n Skip → Refuses source (at + n) e → Refuses source at e
-  behind_token : {at n : ℕ} {kind : TokenKind} {e : LexErr} → Longest (fresh_at source at) (drop at source) n (Token kind) → Refuses source (at + n) e
+  behind_skip : {at n : ℕ} {e : LexErr} → Longest (fresh_at source at) (drop at source) n Skip → Refuses source (at + n) e
+      → Refuses source at e
+  behind_token : {at n : ℕ} {kind : TokenKind} {e : LexErr} → Longest (fresh_at source at) (drop at source) n (Token kind)
+      → Refuses source (at + n) e
       → Refuses source at e
 
 -- from a place on the source is tokens, or it has a refusal
 abbrev pub IsDecided : Text → ℕ → Type 0
 IsDecided source at = ((ts : List AToken) × Lexes source at ts) ⊎ ((e : LexErr) × Refuses source at e)
+
+-- ---- the line of a token by its number
+
+abbrev pub line_or_first : Option AToken → ℕ
+line_or_first None = 1
+line_or_first (Some t) = t.line
+
+-- The line of the token of this number, from 0; past the last token the last one's line; 1 where there are no tokens.
+abbrev pub line_of_token : List AToken → ℕ → ℕ
+line_of_token tokens number = line_or_first (slice_get tokens (min (length tokens - 1) number))
 
 -- ---- what follows for each token
 

@@ -19,7 +19,8 @@ pub enum Fault {
     BadChar,
 }
 
-/// Why a source is no list of tokens; `at` is the place of a byte, from 0: that of the first byte of the first piece that is none.
+/// Why a source is no list of tokens; `at` is the place of a byte, from 0: that of the first byte of the first piece
+/// that is none.
 #[derive(Clone, Copy, Debug, PartialEq, Eq, Error)]
 pub enum LexErr {
     /// A byte that begins no token, such as `#`, `"`, `\` and a lone `@`; printed as L1.

@@ -1,8 +1,9 @@
 //! The tokens of a source.
-ghost use Rattle.std.specs.Prelude.{◌≡◌, ◌≢◌, ◌<◌, ◌≤◌, ◌+◌, ◌++◌, ◌^◌, ℕ, List, Ok, Err, length, IfOk, IfErr, MatchResult};
+ghost use Rattle.std.specs.Prelude.{◌≡◌, ◌≢◌, ◌<◌, ◌≤◌, ◌+◌, ◌-◌, ◌++◌, ◌^◌, ℕ, List, Ok, Err, length, IfOk, IfErr, MatchResult};
 ghost use Rattle.c_lex.specs.declared.token.Token.{Token as AToken};
 ghost use Rattle.c_lex.specs.declared.item.LexErr.TheVariants as err;
 ghost use Rattle.c_lex.specs.declared.item.LexErr.{LexErr as ALexErr};
+ghost use Rattle.c_lex.specs.Spelling.{AreKeywordsRead, AreNotesRead, AreMarksRead};
 ghost use Rattle.c_lex.specs.Tokens as spec;
 ghost use Rattle.c_lex.specs.Measures as measure;
 
@@ -40,11 +41,32 @@ fn refusal(fault: Fault, at: u32) -> LexErr
     }
 }
 
+/// How many line feeds there are.
 fn line_feeds(text: &[u8]) -> usize
     ensures value { result ≡ spec.line_feeds text.now }
     ensures within { result ≤ length text.now }
 {
     text.iter().filter(|b| **b == b'\n').count()
+}
+
+/// The line of a place of a source, from 1.
+pub fn line_at(source: &[u8], at: u32) -> u32
+    requires { length source.now < 2 ^ 32 - 1 }
+    ensures { result ≡ spec.line_at source.now at }
+{
+    let front = &source[..source.len().min(at as usize)];
+    line_feeds(front) as u32 + 1
+}
+
+/// The line of the token of this number, from 0; past the last token the last one's line; 1 where there are no tokens.
+pub fn line_of_token(tokens: &[Token], number: u32) -> u32
+    ensures { result ≡ spec.line_of_token tokens.now number }
+{
+    let last = tokens.len().saturating_sub(1);
+    match tokens.get(last.min(number as usize)) {
+        Some(token) => token.line,
+        None => 1,
+    }
 }
 
 /// Whether a line has nothing but blanks behind these bytes, which begin in a line that is so or not.
@@ -66,7 +88,8 @@ fn keep(
     end: u32,
     line: u32,
 ) -> Result<(), LexErr>
-    ensures kept { MatchResult result (λ _. measure.kept item start end line found.old.items ≡ Ok found.new.items) (λ fault. fault ≢ err.NoMemory → measure.kept item start end line found.old.items ≡ Err fault) }
+    ensures kept { MatchResult result (λ _. measure.kept item start end line found.old.items ≡ Ok found.new.items)
+        (λ fault. fault ≢ err.NoMemory → measure.kept item start end line found.old.items ≡ Err fault) }
 {
     match item {
         Some(Item::Skip) => Ok(()),
@@ -112,19 +135,22 @@ fn read(alloc: Global, source: &[u8]) -> Result<Vec<Token>, LexErr>
     Ok(found)
 }
 
-/// The tokens of a source of fewer than 2^32 bytes (C99 6.4), each with its span and its line, or the first place where there is none.
+/// The tokens of a source of fewer than 2^32 bytes (C99 6.4), each with its span and its line, or the first place
+/// where there is none.
 /// At each place the longest piece is taken; blanks, comments and line markers are skipped.
 pub fn lex(alloc: Global, source: &[u8]) -> Result<Vec<Token>, LexErr>
     requires { length source.now < 2 ^ 32 }
     // The source is these tokens.
     ensures tokens { IfOk result (λ found. spec.Lexes source.now 0 found.items) }
     // What the source is, is answered, unless memory runs out.
-    ensures only_tokens { (ts : List AToken) → spec.Lexes source.now 0 ts → MatchResult result (λ found. found.items ≡ ts) (λ fault. fault ≡ err.NoMemory) }
+    ensures only_tokens { (ts : List AToken) → spec.Lexes source.now 0 ts
+        → MatchResult result (λ found. found.items ≡ ts) (λ fault. fault ≡ err.NoMemory) }
 
     // A fault stands at the first place where the source is no tokens.
     ensures refused { IfErr result (λ fault. fault ≢ err.NoMemory → spec.Refuses source.now 0 fault) }
     // Where there is such a place, it is answered, unless memory runs out.
-    ensures only_refusal { (e : ALexErr) → spec.Refuses source.now 0 e → MatchResult result (λ _. ⊥) (λ fault. fault ≢ err.NoMemory → fault ≡ e) }
+    ensures only_refusal { (e : ALexErr) → spec.Refuses source.now 0 e
+        → MatchResult result (λ _. ⊥) (λ fault. fault ≢ err.NoMemory → fault ≡ e) }
 
     // The spans are within the source and in order, each text is the slice of its source, each line is that of the first byte.
     ensures in_order { IfOk result (λ found. spec.InOrder source.now 0 found.items) }
@@ -140,4 +166,11 @@ pub fn each_source_is_read_in_one_way()
     ensures one_refusal { (source : List ℕ) (e f : ALexErr) → spec.Refuses source 0 e → spec.Refuses source 0 f → e ≡ f }
     ensures not_both { (source : List ℕ) (ts : List AToken) (e : ALexErr) → spec.Lexes source 0 ts → spec.Refuses source 0 e → ⊥ }
     ensures decided { (source : List ℕ) → spec.IsDecided source 0 }
+{}
+
+/// Each keyword, annotation and mark is what its own text is read as.
+pub fn each_spelling_is_read()
+    ensures keywords { AreKeywordsRead }
+    ensures notes { AreNotesRead }
+    ensures marks { AreMarksRead }
 {}

@@ -10,8 +10,7 @@ mod spelling;
 mod token;
 
 pub use item::LexErr;
-pub use lexer::{each_source_is_read_in_one_way, lex};
+pub use lexer::{
+    each_source_is_read_in_one_way, each_spelling_is_read, lex, line_at, line_of_token,
+};
 pub use token::{Keyword, Mark, Note, Token, TokenKind};
-
-#[cfg(test)]
-mod tests;

@@ -159,7 +159,8 @@ pub enum TokenKind {
     /// A name that is no keyword, with its text.
     Word(Name),
     Keyword(Keyword),
-    /// A constant of value 0 to 65535; `decimal` without a leading zero (or `0` itself), `unsigned` with a suffix `u` or `U` (C99 6.4.4.1).
+    /// A constant of value 0 to 65535; `decimal` without a leading zero (or `0` itself), `unsigned` with a suffix `u`
+    /// or `U` (C99 6.4.4.1).
     Number {
         value: u32,
         decimal: bool,

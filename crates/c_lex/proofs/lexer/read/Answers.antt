@@ -28,9 +28,11 @@ loop-at-preserved c =
     record {
       reached = on.1;
       within = omega (arith, c.piece_len-n.ensures.within, length-left c.args.source.now c.loop-at.at);
-      counted = feeds_next c.args.source.now c.loop-at.at c.piece_len-n.result c.line_feeds-lines.result c.loop-at.lines c.loop-at.invariant.counted c.line_feeds-lines.ensures.value;
+      counted = feeds_next c.args.source.now c.loop-at.at c.piece_len-n.result c.line_feeds-lines.result c.loop-at.lines
+          c.loop-at.invariant.counted c.line_feeds-lines.ensures.value;
       few = omega (arith, few, c.line_feeds-lines.ensures.value);
-      fresh = fresh_next c.args.source.now c.loop-at.at c.piece_len-n.result c.loop-at.fresh c.blank_after-fresh.result c.loop-at.invariant.fresh c.blank_after-fresh.ensures;
+      fresh = fresh_next c.args.source.now c.loop-at.at c.piece_len-n.result c.loop-at.fresh c.blank_after-fresh.result
+          c.loop-at.invariant.fresh c.blank_after-fresh.ensures;
     }
 
 pub returns-clause-tokens : goal.returns-clause-tokens
