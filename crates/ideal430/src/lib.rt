@@ -1,0 +1,7 @@
+//! The board with unbroken power: what each service does to registers and words, as one effect, the machine that runs
+//! code with these services, and when a checkpoint is due and what it all takes in ticks.
+#![tactic(auto)]
+
+mod service;
+
+pub use service::{Service, Store};
