@@ -1,0 +1,5 @@
+pub mod Objects
+pub mod Operators
+pub mod Ordered
+pub mod Pointers
+pub mod Values
