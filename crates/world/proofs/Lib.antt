@@ -1,3 +1,4 @@
+pub mod HistoryLemmas
 pub mod PlanLemmas
 pub mod ReadingsLemmas
 pub mod TextLemmas

@@ -1,17 +1,18 @@
 -- Each step of the world that plays a trace keeps what it keeps.
-use Rattle.std.proofs.Common.{◌≡◌, ◌≢◌, ℕ, ◌+◌, ◌-◌, ◌*◌, ◌/◌, ◌%◌, ◌<◌, ◌≤◌, ◌^◌, ◌⊎◌, Some, List, [], ◌∷◌, ◌++◌, length, map, take, filter, slice_get, get_or, set, replicate, suc, zero, refl, sym, ◌∙◌, ap, subst, inl, inr, arith}
+use Rattle.std.proofs.Common.{◌≡◌, ◌≢◌, ℕ, ◌+◌, ◌-◌, ◌*◌, ◌/◌, ◌%◌, ◌<◌, ◌≤◌, ◌^◌, ◌⊎◌, Some, List, [], ◌∷◌, ◌++◌, length, map, take, filter, slice_get, get_or, set, replicate, cond, nat_le, suc, zero, refl, sym, ◌∙◌, ap, subst, inl, inr, arith}
 use Rattle.std.proofs.lemmas.Nat.{div-add-mod', div-mul-add, le-div}
 use Rattle.std.proofs.Math.Nat.{div-mul-le_self, div-eq_of_lt, mod-eq_of_lt}
 use Rattle.std.proofs.lemmas.List.{take-append-le, take_more, map-append, length-append, length-map, length-take-le, take_all, get_or-set_same, get_or-set_other}
 use Rattle.std.proofs.lemmas.List.Elements.{filter-append}
 use Rattle.std.proofs.lemmas.Option.{slice_get_within, get_or_from_slice_get}
 use Rattle.std.proofs.lemmas.Bool.Decides.{nat_tests}
-use Rattle.std.proofs.lemmas.List.Sums.{length-filter, sum_by_more, sum_by-take-le}
+use Rattle.std.proofs.lemmas.List.Sums.{length-filter, sum_by_more, sum_by-append, sum_by-take-le}
 use Rattle.base16.specs.declared.reading.Reading.{Reading}
 use Rattle.base16.specs.declared.reading.Reading.TheVariants.{Sense, Clock}
 use Rattle.world.specs.Plan.{Plan, IsPlan, ticks_of, off_of}
 use Rattle.world.specs.World.{IsLawful, Wakes}
-use Rattle.world.specs.TraceWorld.{is_of, given_of, next_value, AreNext, clock_at, AreClocks, Follows, world_of, Kept}
+use Rattle.world.proofs.ReadingsLemmas.{readings_sense, readings_clock, last_sense, last_clock}
+use Rattle.world.specs.TraceWorld.{is_of, given_of, next_value, AreNext, clock_at, cycle_of, AreClocks, AreBegun, Follows, world_of, Kept}
 use Rattle.world.specs.declared.cycle.PowerCycle.{PowerCycle}
 
 -- one more than a number: the quotient is the same, or one more where the remainder was the last
@@ -35,14 +36,22 @@ div-mono m n r pos h = le-div (m / r) n r pos (omega (arith, div-mul-le_self m r
 take_before : {A : Type 0} (xs : List A) (x : A) (i : ℕ) → i ≤ length xs → take i (xs ++ x ∷ []) ≡ take i xs
 take_before xs x i h = take-append-le i xs (x ∷ []) h
 
-get_push : {A : Type 0} (xs : List A) (x y : A) (i : ℕ) → slice_get (xs ++ x ∷ []) i ≡ Some y → ((i < length xs) × (slice_get xs i ≡ Some y)) ⊎ ((i ≡ length xs) × (x ≡ y))
+get_push : {A : Type 0} (xs : List A) (x y : A) (i : ℕ) → slice_get (xs ++ x ∷ []) i ≡ Some y
+    → ((i < length xs) × (slice_get xs i ≡ Some y)) ⊎ ((i ≡ length xs) × (x ≡ y))
 get_push [] x y zero h = inr (refl, cc)
 get_push [] x y (suc i) h = cc
 get_push (z ∷ xs) x y zero h = inl (omega arith, h)
-get_push (z ∷ xs) x y (suc i) h = elim (get_push xs x y i h) [ inl p ↦ inl (omega (arith, p.0), p.1) | inr p ↦ inr (ap suc p.0, p.1) ]
+get_push (z ∷ xs) x y (suc i) h = elim (get_push xs x y i h) [
+  | inl p ↦ inl (
+    omega (arith, p.0),
+    p.1,
+  )
+  | inr p ↦ inr (ap suc p.0, p.1)
+]
 
 -- a value more of a channel
-given_push : (channel : ℕ) (rs : List Reading) (r : Reading) → given_of channel (rs ++ r ∷ []) ≡ given_of channel rs + given_of channel (r ∷ [])
+given_push : (channel : ℕ) (rs : List Reading) (r : Reading)
+    → given_of channel (rs ++ r ∷ []) ≡ given_of channel rs + given_of channel (r ∷ [])
 given_push channel rs r =
     sym (length-filter (is_of channel) (rs ++ r ∷ [])) ∙ ap length (filter-append (is_of channel) rs (r ∷ []))
     ∙ length-append (filter (is_of channel) rs) (filter (is_of channel) (r ∷ []))
@@ -60,15 +69,26 @@ given_same channel value = grind (arith, nat_tests)
 given_other : (q channel value : ℕ) → q ≢ channel → given_of q (Sense channel value ∷ []) ≡ 0
 given_other q channel value h = grind (arith, nat_tests)
 
-taken_push : (k : List ℕ) (rs : List Reading) (channel value : ℕ) → channel < length k → ((q : ℕ) → q < 16 → get_or k q 0 ≡ given_of q rs)
-    → (q : ℕ) → q < 16 → (q ≡ channel) ⊎ (q ≢ channel) → get_or (set k channel (get_or k channel 0 + 1)) q 0 ≡ given_of q (rs ++ Sense channel value ∷ [])
+taken_push : (k : List ℕ) (rs : List Reading) (channel value : ℕ) → channel < length k
+    → ((q : ℕ) → q < 16 → get_or k q 0 ≡ given_of q rs)
+    → (q : ℕ) → q < 16 → (q ≡ channel) ⊎ (q ≢ channel) → get_or (set k channel (get_or k channel 0 + 1)) q 0
+    ≡ given_of q (rs ++ Sense channel value ∷ [])
 taken_push k rs channel value within h q small (inl e) =
-    let here : get_or (set k channel (get_or k channel 0 + 1)) q 0 ≡ get_or k channel 0 + 1 = subst (λ (n : ℕ). get_or (set k channel (get_or k channel 0 + 1)) n 0 ≡ get_or k channel 0 + 1) (sym e) (get_or-set_same k channel (get_or k channel 0 + 1) 0 within) in
-    let one : given_of q (Sense channel value ∷ []) ≡ 1 = subst (λ (n : ℕ). given_of q (Sense n value ∷ []) ≡ 1) e (given_same q value) in
+    let here : get_or (set k channel (get_or k channel 0 + 1)) q 0 ≡ get_or k channel 0 + 1 =
+    subst (λ (n : ℕ). get_or (set k channel (get_or k channel 0 + 1)) n 0 ≡ get_or k channel 0 + 1) (sym e)
+    (get_or-set_same k channel (get_or k channel 0 + 1) 0 within) in
+    let one : given_of q (Sense channel value ∷ []) ≡ 1 = subst (λ (n : ℕ). given_of q (Sense n value ∷ []) ≡ 1) e
+    (given_same q value) in
     let was : get_or k channel 0 ≡ given_of q rs = subst (λ (n : ℕ). get_or k n 0 ≡ given_of q rs) e (h q small) in
     omega (arith, here, one, was, given_push q rs (Sense channel value))
 taken_push k rs channel value within h q small (inr ne) =
-    omega (arith, get_or-set_other k channel q (get_or k channel 0 + 1) 0 ne, given_other q channel value ne, h q small, given_push q rs (Sense channel value))
+    omega (
+      arith,
+      get_or-set_other k channel q (get_or k channel 0 + 1) 0 ne,
+      given_other q channel value ne,
+      h q small,
+      given_push q rs (Sense channel value),
+    )
 
 same_or_not : (a b : ℕ) → (a ≡ b) ⊎ (a ≢ b)
 same_or_not a b = grind arith
@@ -77,45 +97,80 @@ given_clock : (q : ℕ) (rs : List Reading) (ms : ℕ) → given_of q rs ≡ giv
 given_clock q rs ms = omega (arith, given_push q rs (Clock ms))
 
 -- a sensor reading more
-next_push : (p : Plan) (rs : List Reading) (channel value : ℕ) → value ≡ next_value p rs channel → AreNext p rs → AreNext p (rs ++ Sense channel value ∷ [])
+next_push : (p : Plan) (rs : List Reading) (channel value : ℕ) → value ≡ next_value p rs channel → AreNext p rs
+    → AreNext p (rs ++ Sense channel value ∷ [])
 next_push p rs channel value is h i ch v at =
     elim (get_push rs (Sense channel value) (Sense ch v) i at) [
-      | inl q ↦ h i ch v q.1 ∙ ap (λ (zs : List Reading). next_value p zs ch) (sym (take_before rs (Sense channel value) i (omega (arith, q.0))))
+      | inl q ↦ h i ch v q.1 ∙ ap (λ (zs : List Reading). next_value p zs ch)
+          (sym (take_before rs (Sense channel value) i (omega (arith, q.0))))
       | inr q ↦
           let same : channel ≡ ch = (let e = q.1 in cc) in
           let equal : v ≡ value = (let e = q.1 in cc) in
-          let all : take i (rs ++ Sense channel value ∷ []) ≡ rs = take_before rs (Sense channel value) i (omega (arith, q.0)) ∙ take_all i rs (omega (arith, q.0)) in
+          let all : take i (rs ++ Sense channel value ∷ []) ≡ rs = take_before rs (Sense channel value) i (omega (arith, q.0))
+          ∙ take_all i rs (omega (arith, q.0)) in
           equal ∙ is ∙ ap (λ (n : ℕ). next_value p rs n) same ∙ ap (λ (zs : List Reading). next_value p zs ch) (sym all)
     ]
 
 next_clock : (p : Plan) (rs : List Reading) (ms : ℕ) → AreNext p rs → AreNext p (rs ++ Clock ms ∷ [])
 next_clock p rs ms h i ch v at =
     elim (get_push rs (Clock ms) (Sense ch v) i at) [
-      | inl q ↦ h i ch v q.1 ∙ ap (λ (zs : List Reading). next_value p zs ch) (sym (take_before rs (Clock ms) i (omega (arith, q.0))))
+      | inl q ↦ h i ch v q.1 ∙ ap (λ (zs : List Reading). next_value p zs ch)
+          (sym (take_before rs (Clock ms) i (omega (arith, q.0))))
       | inr q ↦ absurd (let e = q.1 in cc)
     ]
 
 -- a clock reading more
-clocks_sense : (p : Plan) (b s : ℕ) (rs : List Reading) (ts : List ℕ) (channel value : ℕ) → length ts ≡ length rs → AreClocks p b rs ts → AreClocks p b (rs ++ Sense channel value ∷ []) (ts ++ s ∷ [])
-clocks_sense p b s rs ts channel value long h i ms t at then =
+clocks_sense : (p : Plan) (s : ℕ) (rs : List Reading) (ts fs : List ℕ) (channel value : ℕ) → length ts ≡ length rs
+    → AreClocks p rs ts fs → AreClocks p (rs ++ Sense channel value ∷ []) (ts ++ s ∷ []) fs
+clocks_sense p s rs ts fs channel value long h i ms t at told =
     elim (get_push rs (Sense channel value) (Clock ms) i at) [
-      | inl q ↦ elim (get_push ts s t i then) [ inl r ↦ h i ms t q.1 r.1 | inr r ↦ absurd (omega (arith, q.0, r.0, long)) ]
+      | inl q ↦ elim (get_push ts s t i told) [ inl r ↦ h i ms t q.1 r.1 | inr r ↦ absurd (omega (arith, q.0, r.0, long)) ]
       | inr q ↦ absurd (let e = q.1 in cc)
     ]
 
-clocks_now : (p : Plan) (b s c : ℕ) (rs : List Reading) (ts : List ℕ) → length ts ≡ length rs → c ≡ clock_at p s b → AreClocks p b rs ts → AreClocks p b (rs ++ Clock c ∷ []) (ts ++ s ∷ [])
-clocks_now p b s c rs ts long is h i ms t at then =
+all_begun : (firsts : List ℕ) (given : ℕ) → AreBegun firsts given → cycle_of firsts given ≡ length firsts
+all_begun [] given h = refl
+all_begun (n ∷ firsts) given h =
+    let e : ◌≡◌ {A = ℕ} (cycle_of (n ∷ firsts) given) (cycle_of (n ∷ []) given + cycle_of firsts given) =
+    sum_by-append (λ x. cond (nat_le x given) 1 0) (n ∷ []) firsts in
+    omega (arith, one_before n given h.0, e, all_begun firsts given h.1)
+  where
+    one_before : (n given : ℕ) → n ≤ given → ◌≡◌ {A = ℕ} (cycle_of (n ∷ []) given) 1
+    one_before n given h = grind (arith, nat_tests)
+
+begun_later : (firsts : List ℕ) (g k : ℕ) → g ≤ k → AreBegun firsts g → AreBegun firsts k
+begun_later [] g k le h = tt
+begun_later (n ∷ firsts) g k le h = (omega (arith, le, h.0), begun_later firsts g k le h.1)
+
+begun_one : (firsts : List ℕ) (g : ℕ) → AreBegun firsts g → AreBegun (firsts ++ g ∷ []) g
+begun_one [] g h = (omega arith, tt)
+begun_one (n ∷ firsts) g h = (h.0, begun_one firsts g h.1)
+
+clocks_now : (p : Plan) (s c : ℕ) (rs : List Reading) (ts fs : List ℕ) → length ts ≡ length rs → AreBegun fs (length rs)
+    → c ≡ clock_at p s (length fs) → AreClocks p rs ts fs → AreClocks p (rs ++ Clock c ∷ []) (ts ++ s ∷ []) fs
+clocks_now p s c rs ts fs long begun is h i ms t at told =
     elim (get_push rs (Clock c) (Clock ms) i at) [
-      | inl q ↦ elim (get_push ts s t i then) [ inl r ↦ h i ms t q.1 r.1 | inr r ↦ absurd (omega (arith, q.0, r.0, long)) ]
-      | inr q ↦ elim (get_push ts s t i then) [
+      | inl q ↦ elim (get_push ts s t i told) [ inl r ↦ h i ms t q.1 r.1 | inr r ↦ absurd (omega (arith, q.0, r.0, long)) ]
+      | inr q ↦ elim (get_push ts s t i told) [
         | inl r ↦ absurd (omega (arith, q.0, r.0, long))
         | inr r ↦
             let same : c ≡ ms = (let e = q.1 in cc) in
-            (b, omega arith, sym same ∙ is ∙ ap (λ (n : ℕ). clock_at p n b) r.1)
+            sym same ∙ is ∙ ap (λ n. clock_at p n (length fs)) r.1
+            ∙ ap (clock_at p t) (sym (ap (cycle_of fs) q.0 ∙ all_begun fs (length rs) begun))
       ]
     ]
 
-pub kept_new : (p : Plan) → IsPlan p → Kept p 0 0 0 p.start p.rate (replicate 16 0) [] []
+one_later : (g i : ℕ) → i < g → ◌≡◌ {A = ℕ} (cycle_of (g ∷ []) i) 0
+one_later g i h = grind (arith, nat_tests)
+
+clocks_wake : (p : Plan) (rs : List Reading) (ts fs : List ℕ) → AreClocks p rs ts fs → AreClocks p rs ts (fs ++ length rs ∷ [])
+clocks_wake p rs ts fs h i ms t at told =
+    let within : i < length rs = slice_get_within rs i (Clock ms) at in
+    let e : cycle_of (fs ++ length rs ∷ []) i ≡ cycle_of fs i = sum_by-append (λ n. cond (nat_le n i) 1 0) fs (length rs ∷ [])
+    ∙ omega (arith, one_later (length rs) i within) in
+    h i ms t at told ∙ ap (clock_at p t) (sym e)
+
+pub kept_new : (p : Plan) → IsPlan p → Kept p 0 0 0 p.start p.rate (replicate 16 0) [] [] []
 kept_new p h = record {
   plan = h;
   begun = omega arith;
@@ -126,11 +181,16 @@ kept_new p h = record {
   timed = refl;
   taken = λ channel small. zeros 16 channel;
   senses = λ i channel value at. cc;
-  clocks = λ i ms spent at then. cc;
+  clocks = λ i ms spent at told. cc;
+  firsts = refl;
+  before = tt;
+  readings = tt;
+  last = omega arith;
 }
 
-pub kept_tick : (p : Plan) (b s l c u : ℕ) (k : List ℕ) (rs : List Reading) (ts : List ℕ) → 0 < l → 1 < u → Kept p b s l c u k rs ts → Kept p b (s + 1) (l - 1) c (u - 1) k rs ts
-kept_tick p b s l c u k rs ts pos more h =
+pub kept_tick : (p : Plan) (b s l c u : ℕ) (k : List ℕ) (rs : List Reading) (ts fs : List ℕ) → 0 < l → 1 < u
+    → Kept p b s l c u k rs ts fs → Kept p b (s + 1) (l - 1) c (u - 1) k rs ts fs
+kept_tick p b s l c u k rs ts fs pos more h =
     let d = div-next s p.rate (omega (arith, h.until)) in
     record {
       plan = h.plan;
@@ -143,10 +203,15 @@ kept_tick p b s l c u k rs ts pos more h =
       taken = h.taken;
       senses = h.senses;
       clocks = h.clocks;
+      firsts = h.firsts;
+      before = h.before;
+      readings = h.readings;
+      last = omega (arith, h.last);
     }
 
-pub kept_turn : (p : Plan) (b s l c u r : ℕ) (k : List ℕ) (rs : List Reading) (ts : List ℕ) → 0 < l → u ≤ 1 → r ≡ p.rate → Kept p b s l c u k rs ts → Kept p b (s + 1) (l - 1) (c + 1) r k rs ts
-kept_turn p b s l c u r k rs ts pos low is h =
+pub kept_turn : (p : Plan) (b s l c u r : ℕ) (k : List ℕ) (rs : List Reading) (ts fs : List ℕ) → 0 < l → u ≤ 1 → r ≡ p.rate
+    → Kept p b s l c u k rs ts fs → Kept p b (s + 1) (l - 1) (c + 1) r k rs ts fs
+kept_turn p b s l c u r k rs ts fs pos low is h =
     let one : u ≡ 1 = omega (arith, h.until, h.plan.rate) in
     let d = div-wrap s p.rate (omega (arith, h.until, one)) in
     record {
@@ -160,11 +225,18 @@ kept_turn p b s l c u r k rs ts pos low is h =
       taken = h.taken;
       senses = h.senses;
       clocks = h.clocks;
+      firsts = h.firsts;
+      before = h.before;
+      readings = h.readings;
+      last = omega (arith, h.last);
     }
 
-pub kept_sense : (p : Plan) (b s l c u channel value : ℕ) (k : List ℕ) (rs : List Reading) (ts : List ℕ) → channel < 16 → channel < length k → length rs < s → value ≡ next_value p rs channel
-    → Kept p b s l c u k rs ts → Kept p b s l c u (set k channel (get_or k channel 0 + 1)) (rs ++ Sense channel value ∷ []) (ts ++ s ∷ [])
-kept_sense p b s l c u channel value k rs ts small within room is h = record {
+pub kept_sense : (p : Plan) (b s l c u channel value : ℕ) (k : List ℕ) (rs : List Reading) (ts fs : List ℕ) → channel < 16
+    → value < 2 ^ 16 → channel < length k
+    → length rs < s → value ≡ next_value p rs channel
+    → Kept p b s l c u k rs ts fs → Kept p b s l c u (set k channel (get_or k channel 0 + 1)) (rs ++ Sense channel value ∷ [])
+    (ts ++ s ∷ []) fs
+kept_sense p b s l c u channel value k rs ts fs small word within room is h = record {
   plan = h.plan;
   begun = h.begun;
   power = h.power;
@@ -174,12 +246,32 @@ kept_sense p b s l c u channel value k rs ts small within room is h = record {
   timed = omega (arith, h.timed, length-append rs (Sense channel value ∷ []), length-append ts (s ∷ []));
   taken = λ q below. taken_push k rs channel value within h.taken q below (same_or_not q channel);
   senses = next_push p rs channel value is h.senses;
-  clocks = clocks_sense p b s rs ts channel value h.timed h.clocks;
+  clocks = clocks_sense p s rs ts fs channel value h.timed h.clocks;
+  firsts = h.firsts;
+  before = begun_later fs (length rs) (length (rs ++ Sense channel value ∷ [])) (omega (
+    arith,
+    length-append rs (Sense channel value ∷ []),
+  )) h.before;
+  readings = readings_sense 0 rs channel value small word h.readings;
+  last = omega (arith, last_sense 0 rs channel value, h.last);
 }
 
-pub kept_now : (p : Plan) (b s l c u : ℕ) (k : List ℕ) (rs : List Reading) (ts : List ℕ) → length rs < s
-    → Kept p b s l c u k rs ts → Kept p b s l c u k (rs ++ Clock c ∷ []) (ts ++ s ∷ [])
-kept_now p b s l c u k rs ts room h = record {
+-- the clock is below 2^31
+clock_below : (p : Plan) (b s l c u : ℕ) (k : List ℕ) (rs : List Reading) (ts fs : List ℕ) → Kept p b s l c u k rs ts fs
+    → c < 2 ^ 31
+clock_below p b s l c u k rs ts fs h =
+    let total : ticks_of (take b p.cycles) ≤ ticks_of p.cycles = sum_by-take-le (λ (x : PowerCycle). x.ticks) p.cycles b in
+    let off : off_of (take (b - 1) p.cycles) ≤ off_of p.cycles = sum_by-take-le (λ (x : PowerCycle). x.off) p.cycles (b - 1) in
+    let below : s / p.rate ≤ ticks_of p.cycles / p.rate = div-mono s (ticks_of p.cycles) p.rate h.plan.rate (omega (
+      arith,
+      h.power,
+      total,
+    )) in
+    omega (arith, h.clock, off, below, h.plan.clock)
+
+pub kept_now : (p : Plan) (b s l c u : ℕ) (k : List ℕ) (rs : List Reading) (ts fs : List ℕ) → length rs < s
+    → Kept p b s l c u k rs ts fs → Kept p b s l c u k (rs ++ Clock c ∷ []) (ts ++ s ∷ []) fs
+kept_now p b s l c u k rs ts fs room h = record {
   plan = h.plan;
   begun = h.begun;
   power = h.power;
@@ -189,12 +281,17 @@ kept_now p b s l c u k rs ts room h = record {
   timed = omega (arith, h.timed, length-append rs (Clock c ∷ []), length-append ts (s ∷ []));
   taken = λ q below. h.taken q below ∙ given_clock q rs c;
   senses = next_clock p rs c h.senses;
-  clocks = clocks_now p b s c rs ts h.timed h.clock h.clocks;
+  clocks = clocks_now p s c rs ts fs h.timed h.before (h.clock ∙ ap (clock_at p s) (sym h.firsts)) h.clocks;
+  firsts = h.firsts;
+  before = begun_later fs (length rs) (length (rs ++ Clock c ∷ [])) (omega (arith, length-append rs (Clock c ∷ []))) h.before;
+  readings = readings_clock 0 rs c (clock_below p b s l c u k rs ts fs h) h.last h.readings;
+  last = omega (arith, last_clock 0 rs c);
 }
 
-pub kept_wake : (p : Plan) (b s l c u off : ℕ) (cycle : PowerCycle) (k : List ℕ) (rs : List Reading) (ts : List ℕ) → slice_get p.cycles b ≡ Some cycle → off_of (take b p.cycles) ≡ off_of (take (b - 1) p.cycles) + off
-    → Kept p b s l c u k rs ts → Kept p (b + 1) s cycle.ticks (c + off) u k rs ts
-kept_wake p b s l c u off cycle k rs ts at is h =
+pub kept_wake : (p : Plan) (b s l c u off : ℕ) (cycle : PowerCycle) (k : List ℕ) (rs : List Reading) (ts fs : List ℕ)
+    → slice_get p.cycles b ≡ Some cycle → off_of (take b p.cycles) ≡ off_of (take (b - 1) p.cycles) + off
+    → Kept p b s l c u k rs ts fs → Kept p (b + 1) s cycle.ticks (c + off) u k rs ts (fs ++ length rs ∷ [])
+kept_wake p b s l c u off cycle k rs ts fs at is h =
     let within : b < length p.cycles = slice_get_within p.cycles b cycle at in
     let last : get_or p.cycles b cycle ≡ cycle = get_or_from_slice_get p.cycles b cycle cycle at in
     let ticks : (get_or p.cycles b cycle).ticks ≡ cycle.ticks = ap (λ (x : PowerCycle). x.ticks) last in
@@ -209,25 +306,32 @@ kept_wake p b s l c u off cycle k rs ts at is h =
       timed = h.timed;
       taken = h.taken;
       senses = h.senses;
-      clocks = λ i ms t at' then. let r = h.clocks i ms t at' then in (r.0, omega (arith, r.1), r.2);
+      clocks = clocks_wake p rs ts fs h.clocks;
+      firsts = omega (arith, length-append fs (length rs ∷ []), h.firsts);
+      before = begun_one fs (length rs) h.before;
+      readings = h.readings;
+      last = omega (arith, h.last);
     }
 
-pub kept_lawful : (p : Plan) (b s l c u : ℕ) (k : List ℕ) (rs : List Reading) (ts : List ℕ) → Kept p b s l c u k rs ts → IsLawful (world_of p b s l c rs ts)
-kept_lawful p b s l c u k rs ts h =
+pub kept_lawful : (p : Plan) (b s l c u : ℕ) (k : List ℕ) (rs : List Reading) (ts fs : List ℕ) → Kept p b s l c u k rs ts fs
+    → IsLawful (world_of p b s l c rs ts fs)
+kept_lawful p b s l c u k rs ts fs h =
     let total : ticks_of (take b p.cycles) ≤ ticks_of p.cycles = sum_by-take-le (λ (x : PowerCycle). x.ticks) p.cycles b in
-    let off : off_of (take (b - 1) p.cycles) ≤ off_of p.cycles = sum_by-take-le (λ (x : PowerCycle). x.off) p.cycles (b - 1) in
-    let below : s / p.rate ≤ ticks_of p.cycles / p.rate = div-mono s (ticks_of p.cycles) p.rate h.plan.rate (omega (arith, h.power, total)) in
     record {
       spent = omega (arith, h.power, total, h.plan.ticks);
-      clock = omega (arith, h.clock, off, below, h.plan.clock);
+      clock = clock_below p b s l c u k rs ts fs h;
       cycles = omega (arith, h.plan.cycles);
       given = h.given;
       timed = h.timed;
+      readings = h.readings;
+      last = h.last;
     }
 
-pub kept_follows : (p : Plan) (b s l c u : ℕ) (k : List ℕ) (rs : List Reading) (ts : List ℕ) → Kept p b s l c u k rs ts → Follows (world_of p b s l c rs ts)
-kept_follows p b s l c u k rs ts h =
-    let e : length (map (λ (x : PowerCycle). x.ticks) (take b p.cycles)) ≡ b = length-map (take b p.cycles) (λ (x : PowerCycle). x.ticks) ∙ length-take-le b p.cycles h.begun in
+pub kept_follows : (p : Plan) (b s l c u : ℕ) (k : List ℕ) (rs : List Reading) (ts fs : List ℕ) → Kept p b s l c u k rs ts fs
+    → Follows (world_of p b s l c rs ts fs)
+kept_follows p b s l c u k rs ts fs h =
+    let e : length (map (λ (x : PowerCycle). x.ticks) (take b p.cycles)) ≡ b =
+    length-map (take b p.cycles) (λ (x : PowerCycle). x.ticks) ∙ length-take-le b p.cycles h.begun in
     record {
       plan = h.plan;
       period = refl;
@@ -236,33 +340,49 @@ kept_follows p b s l c u k rs ts h =
       power = subst (λ (n : ℕ). s + l ≤ ticks_of (take n p.cycles)) (sym e) h.power;
       clock = h.clock ∙ ap (λ (n : ℕ). clock_at p s n) (sym e);
       senses = h.senses;
-      clocks = subst (λ (n : ℕ). AreClocks p n rs ts) (sym e) h.clocks;
+      firsts = h.firsts ∙ sym e;
+      clocks = h.clocks;
     }
 
 -- the clock after one off time more is below 2^31
-pub clock_after : (p : Plan) (b s l c u off : ℕ) (k : List ℕ) (rs : List Reading) (ts : List ℕ) → b ≤ length p.cycles → off_of (take b p.cycles) ≡ off_of (take (b - 1) p.cycles) + off
-    → Kept p b s l c u k rs ts → c + off < 2 ^ 31
-clock_after p b s l c u off k rs ts within is h =
+pub clock_after : (p : Plan) (b s l c u off : ℕ) (k : List ℕ) (rs : List Reading) (ts fs : List ℕ) → b ≤ length p.cycles
+    → off_of (take b p.cycles) ≡ off_of (take (b - 1) p.cycles) + off
+    → Kept p b s l c u k rs ts fs → c + off < 2 ^ 31
+clock_after p b s l c u off k rs ts fs within is h =
     let total : ticks_of (take b p.cycles) ≤ ticks_of p.cycles = sum_by-take-le (λ (x : PowerCycle). x.ticks) p.cycles b in
     let all : off_of (take b p.cycles) ≤ off_of p.cycles = sum_by-take-le (λ (x : PowerCycle). x.off) p.cycles b in
-    let below : s / p.rate ≤ ticks_of p.cycles / p.rate = div-mono s (ticks_of p.cycles) p.rate h.plan.rate (omega (arith, h.power, total)) in
+    let below : s / p.rate ≤ ticks_of p.cycles / p.rate = div-mono s (ticks_of p.cycles) p.rate h.plan.rate (omega (
+      arith,
+      h.power,
+      total,
+    )) in
     omega (arith, h.clock, all, is, below, h.plan.clock)
 
 -- the off time of the last of these cycles
-pub off_last : (cycles : List PowerCycle) (b : ℕ) (cycle : PowerCycle) → 0 < b → slice_get cycles (b - 1) ≡ Some cycle → off_of (take b cycles) ≡ off_of (take (b - 1) cycles) + cycle.off
+pub off_last : (cycles : List PowerCycle) (b : ℕ) (cycle : PowerCycle) → 0 < b → slice_get cycles (b - 1) ≡ Some cycle
+    → off_of (take b cycles) ≡ off_of (take (b - 1) cycles) + cycle.off
 off_last cycles b cycle pos at =
     let within : b - 1 < length cycles = slice_get_within cycles (b - 1) cycle at in
-    let last : (get_or cycles (b - 1) cycle).off ≡ cycle.off = ap (λ (x : PowerCycle). x.off) (get_or_from_slice_get cycles (b - 1) cycle cycle at) in
+    let last : (get_or cycles (b - 1) cycle).off ≡ cycle.off =
+    ap (λ (x : PowerCycle). x.off) (get_or_from_slice_get cycles (b - 1) cycle cycle at) in
     let e : b - 1 + 1 ≡ b = omega arith in
-    omega (arith, sum_by_more (λ (x : PowerCycle). x.off) cycles (b - 1) cycle within, last, ap (λ (n : ℕ). off_of (take n cycles)) e)
+    omega (
+      arith,
+      sum_by_more (λ (x : PowerCycle). x.off) cycles (b - 1) cycle within,
+      last,
+      ap (λ (n : ℕ). off_of (take n cycles)) e,
+    )
 
 -- one power cycle more has begun
-pub wakes : (p : Plan) (b s l c off : ℕ) (cycle : PowerCycle) (rs : List Reading) (ts : List ℕ) → slice_get p.cycles b ≡ Some cycle → Wakes (world_of p b s l c rs ts) (world_of p (b + 1) s cycle.ticks (c + off) rs ts)
-wakes p b s l c off cycle rs ts at =
+pub wakes : (p : Plan) (b s l c off : ℕ) (cycle : PowerCycle) (rs : List Reading) (ts fs : List ℕ)
+    → slice_get p.cycles b ≡ Some cycle → Wakes (world_of p b s l c rs ts fs)
+    (world_of p (b + 1) s cycle.ticks (c + off) rs ts (fs ++ length rs ∷ []))
+wakes p b s l c off cycle rs ts fs at =
     let within : b < length p.cycles = slice_get_within p.cycles b cycle at in
     let last : get_or p.cycles b cycle ≡ cycle = get_or_from_slice_get p.cycles b cycle cycle at in
     let ticks : PowerCycle → ℕ = λ x. x.ticks in
-    let front : take (b + 1) p.cycles ≡ take b p.cycles ++ cycle ∷ [] = take_more p.cycles b cycle within ∙ ap (λ (x : PowerCycle). take b p.cycles ++ x ∷ []) last in
+    let front : take (b + 1) p.cycles ≡ take b p.cycles ++ cycle ∷ [] = take_more p.cycles b cycle within
+    ∙ ap (λ (x : PowerCycle). take b p.cycles ++ x ∷ []) last in
     record {
       plan = refl;
       cycles = omega (arith, within);
@@ -272,4 +392,5 @@ wakes p b s l c off cycle rs ts at =
       period = refl;
       readings = refl;
       times = refl;
+      firsts = refl;
     }

@@ -6,6 +6,7 @@ use Rattle.std.specs.Str.Lines.{lines}
 use Rattle.base16.specs.Readings.{IsReadings}
 use Rattle.base16.specs.declared.reading.Reading.{Reading}
 use Rattle.base16.specs.declared.reading.Reading.TheVariants.{Sense, Clock}
+use Rattle.world.specs.World.{last_clock_of}
 use Rattle.world.specs.Text.{fields, is_padded, is_skipped, number_in}
 use Rattle.world.specs.declared.error.TraceErr.{TraceErr}
 use Rattle.world.specs.declared.error.TraceErr.TheVariants.{BadLine, TooLong}
@@ -43,14 +44,20 @@ IsInRange (Clock ms) = ms < 2 ^ 31
 -- The readings so far and their last clock, or 0. A clock below the last one is no reading.
 abbrev pub with_reading : ReadingsDraft → Reading → Option ReadingsDraft
 with_reading d (Sense channel value) = Some (record d { readings = d.readings ++ Sense channel value ∷ [] })
-with_reading d (Clock ms) = if nat_le d.clock ms then Some (record { readings = d.readings ++ Clock ms ∷ []; clock = ms }) else None
+with_reading d (Clock ms) = if nat_le d.clock ms then Some (record {
+  readings = d.readings ++ Clock ms ∷ [];
+  clock =
+      ms;
+}) else None
 
 unfoldable pub with_reading_line : ReadingsDraft → List ℕ → Option ReadingsDraft
 with_reading_line d line =
-    if is_skipped line then Some d else if is_padded line then None else option_and_then (with_reading d) (reading_of (fields line))
+    if is_skipped line then Some d else if is_padded line then None else option_and_then (with_reading d)
+    (reading_of (fields line))
 
 -- what the lines from number n on say after d, or the first bad one
-abbrev pub or_bad_line : ℕ → (ReadingsDraft → Result ReadingsDraft TraceErr) → Option ReadingsDraft → Result ReadingsDraft TraceErr
+abbrev pub or_bad_line : ℕ → (ReadingsDraft → Result ReadingsDraft TraceErr) → Option ReadingsDraft
+    → Result ReadingsDraft TraceErr
 or_bad_line n next None = Err (BadLine n)
 or_bad_line n next (Some d) = next d
 
@@ -72,12 +79,6 @@ readings_read short (Err e) = Err e
 -- that is passed
 unfoldable pub readings_of : List ℕ → Result (List Reading) TraceErr
 readings_of text = readings_read (nat_le (length text) 1048576) (readings_from 1 no_reading (lines text))
-
--- the last clock of readings, or `low` where there is none
-abbrev pub last_clock_of : ℕ → List Reading → ℕ
-last_clock_of low [] = low
-last_clock_of low (Sense channel value ∷ rest) = last_clock_of low rest
-last_clock_of low (Clock ms ∷ rest) = last_clock_of ms rest
 
 -- what the draft keeps
 pub record IsKept (d : ReadingsDraft) : Type 0 where

@@ -63,13 +63,3 @@ impl History {
         }
     }
 }
-
-#[cfg(test)]
-mod tests {
-    use super::*;
-
-    #[test]
-    fn a_new_history_is_empty(rt: HostRuntime) {
-        assert_eq!(rt; History::new(rt.alloc()).records.len(), 0);
-    }
-}

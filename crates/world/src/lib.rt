@@ -21,6 +21,3 @@ pub use outside::{Off, World};
 pub use reading_readings::parse_readings;
 pub use trace::{Trace, parse_trace};
 pub use trace_world::TraceWorld;
-
-#[cfg(test)]
-mod tests;

@@ -24,10 +24,12 @@ pub struct TraceWorld {
     taken: [u32; 16],
     readings: Vec<Reading>,
     times: Vec<u32>,
+    /// How many readings had been given when each power cycle began.
+    firsts: Vec<u32>,
 }
 
 impl Model for TraceWorld {
-    ghost use Rattle.std.specs.Prelude.{◌≤◌};
+    ghost use Rattle.std.specs.Prelude.{◌≤◌, length};
     ghost use Rattle.std.specs.Vec.{vec_capacity};
     ghost use Rattle.world.specs.Plan.{ticks_of};
     ghost use Rattle.world.specs.World.{WorldState};
@@ -35,22 +37,25 @@ impl Model for TraceWorld {
 
     ghost Value = { WorldState };
 
-    ghost view = { λ w. world_of w.trace w.begun w.spent w.left w.clock w.readings.items w.times.items };
+    ghost view = { λ w. world_of w.trace w.begun w.spent w.left w.clock w.readings.items w.times.items w.firsts.items };
 
-    ghost invariant = { λ w. Kept w.trace w.begun w.spent w.left w.clock w.until w.taken w.readings.items w.times.items
-        × (ticks_of w.trace.cycles ≤ vec_capacity w.readings) × (ticks_of w.trace.cycles ≤ vec_capacity w.times) };
+    ghost invariant = { λ w.
+        Kept w.trace w.begun w.spent w.left w.clock w.until w.taken w.readings.items w.times.items w.firsts.items
+        × (ticks_of w.trace.cycles ≤ vec_capacity w.readings) × (ticks_of w.trace.cycles ≤ vec_capacity w.times)
+        × (length w.trace.cycles ≤ vec_capacity w.firsts) };
 }
 
 impl TraceWorld {
     /// The outside before the first power cycle.
     pub fn new(alloc: Global, trace: Trace) -> Result<TraceWorld, NoMemory>
-        ensures { IfOk result (λ world. world ≡ world_of trace 0 0 0 trace.start [] []) }
+        ensures { IfOk result (λ world. world ≡ world_of trace 0 0 0 trace.start [] [] []) }
     {
         let room = trace.ticks() as usize;
         let clock = trace.start();
         let until = trace.rate();
         let readings = Vec::with_capacity(alloc, room)?;
         let times = Vec::with_capacity(alloc, room)?;
+        let firsts = Vec::with_capacity(alloc, trace.cycle_count() as usize)?;
         Ok(TraceWorld {
             trace,
             begun: 0,
@@ -61,6 +66,7 @@ impl TraceWorld {
             taken: [0; 16],
             readings,
             times,
+            firsts,
         })
     }
 }
@@ -135,6 +141,8 @@ impl World for TraceWorld {
         self.clock += self.trace.off_behind(self.begun);
         self.left = self.trace.cycle(self.begun).ticks;
         self.begun += 1;
+        let given = self.readings.len();
+        push_within(&mut self.firsts, given as u32);
         true
     }
 

@@ -1,24 +1,20 @@
-use crate::TraceErr;
-use crate::outside::{Off, World};
-use crate::reading_readings::parse_readings;
-use crate::trace::{Trace, parse_trace};
-use crate::trace_world::TraceWorld;
 use base16::Reading;
 use std::process::Abort;
 use std::test::Fail;
+use world::{Off, Trace, TraceErr, TraceWorld, World, parse_readings, parse_trace};
 
 /// The first text of a trace.
 const HEAD: &[u8] = b"tics-trace 1\n";
 
 /// Reads a trace that is no longer than a few million bytes.
-#[tactic(auto, using(crate::proofs::TextLemmas::few_lines))]
+#[tactic(auto, using(world::proofs::TextLemmas::few_lines))]
 fn trace_of<R: Abort + AllocGlobal>(rt: &R, text: &[u8]) -> Result<Trace, TraceErr> {
     assert!(rt; text.len() < 4_000_000);
     parse_trace(rt.alloc(), text)
 }
 
 /// How many readings a readings file has.
-#[tactic(auto, using(crate::proofs::TextLemmas::few_lines))]
+#[tactic(auto, using(world::proofs::TextLemmas::few_lines))]
 fn readings_in<R: Abort + AllocGlobal>(rt: &R, text: &[u8]) -> Result<usize, TraceErr> {
     assert!(rt; text.len() < 4_000_000);
     Ok(parse_readings(rt.alloc(), text)?.len())
