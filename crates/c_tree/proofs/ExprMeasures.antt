@@ -99,9 +99,11 @@ pub measure-Comma : (join : Join) (left : Expr) (right : Expr)
 measure-Comma join left right = search (rules, the_lemmas)
 
 pub measure-Conditional : (join : Join) (test : Expr) (one : Expr) (other : Expr)
-    → expr_kind_measure join (k.Conditional test one other) ≡ node join (expr_measure join test ∷ expr_measure join one ∷ expr_measure join other ∷ [])
+    → expr_kind_measure join (k.Conditional test one other)
+    ≡ node join (expr_measure join test ∷ expr_measure join one ∷ expr_measure join other ∷ [])
 measure-Conditional join test one other = search (rules, the_lemmas)
 
 -- a type name has the bounds in it
-pub measure-Typename : (join : Join) (t : Typename) → typename_measure join t ≡ all join (expr_measure join) (out-Typename t).bounds
+pub measure-Typename : (join : Join) (t : Typename)
+    → typename_measure join t ≡ all join (expr_measure join) (out-Typename t).bounds
 measure-Typename join t = search (rules, the_lemmas)

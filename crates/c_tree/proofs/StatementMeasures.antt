@@ -25,7 +25,8 @@ pub measure-Expr : (join : Join) (e : Option Expr)
 measure-Expr join e = search (rules, the_lemmas)
 
 pub measure-If : (join : Join) (test : Expr) (then : Statement) (other : Option Statement)
-    → statement_kind_measure join (k.If test then other) ≡ node join (expr_measure join test ∷ statement_measure join then ∷ optional (statement_measure join) other ∷ [])
+    → statement_kind_measure join (k.If test then other)
+    ≡ node join (expr_measure join test ∷ statement_measure join then ∷ optional (statement_measure join) other ∷ [])
 measure-If join test then other = search (rules, the_lemmas)
 
 pub measure-While : (join : Join) (test : Expr) (body : Statement)
@@ -37,7 +38,9 @@ pub measure-Do : (join : Join) (body : Statement) (test : Expr)
 measure-Do join body test = search (rules, the_lemmas)
 
 pub measure-For : (join : Join) (first : First) (test : Option Expr) (step : Option Expr) (body : Statement)
-    → statement_kind_measure join (k.For first test step body) ≡ node join (first_measure join first ∷ optional (expr_measure join) test ∷ optional (expr_measure join) step ∷ statement_measure join body ∷ [])
+    → statement_kind_measure join (k.For first test step body)
+    ≡ node join (first_measure join first ∷ optional (expr_measure join) test ∷ optional (expr_measure join) step
+    ∷ statement_measure join body ∷ [])
 measure-For join first test step body = search (rules, the_lemmas)
 
 pub measure-Switch : (join : Join) (on : Expr) (groups : List Group)
@@ -59,14 +62,17 @@ pub measure-Stamped : (join : Join) (place : Expr) (value : Expr)
 measure-Stamped join place value = search (rules, the_lemmas)
 
 pub measure-Timely : (join : Join) (place : Expr) (limit : Duration) (then : Statement) (other : Option Statement)
-    → statement_kind_measure join (k.Timely place limit then other) ≡ node join (expr_measure join place ∷ statement_measure join then ∷ optional (statement_measure join) other ∷ [])
+    → statement_kind_measure join (k.Timely place limit then other)
+    ≡ node join (expr_measure join place ∷ statement_measure join then ∷ optional (statement_measure join) other ∷ [])
 measure-Timely join place limit then other = search (rules, the_lemmas)
 
 pub measure-Expires : (join : Join) (names : List Tname) (body : Compound) (caught : Compound)
-    → statement_kind_measure join (k.Expires names body caught) ≡ node join (all join (tname_measure join) names ∷ compound_measure join body ∷ compound_measure join caught ∷ [])
+    → statement_kind_measure join (k.Expires names body caught)
+    ≡ node join (all join (tname_measure join) names ∷ compound_measure join body ∷ compound_measure join caught ∷ [])
 measure-Expires join names body caught = search (rules, the_lemmas)
 
-pub measure-Compound-items : (join : Join) (c : Compound) → compound_measure join c ≡ all join (block_item_measure join) (out-Compound c).items
+pub measure-Compound-items : (join : Join) (c : Compound)
+    → compound_measure join c ≡ all join (block_item_measure join) (out-Compound c).items
 measure-Compound-items join c = search (rules, the_lemmas)
 
 pub measure-Group : (join : Join) (g : Group)
@@ -74,7 +80,8 @@ pub measure-Group : (join : Join) (g : Group)
     ≡ join (all join (label_measure join) (out-Group g).labels) (all join (statement_measure join) (out-Group g).statements)
 measure-Group join g = search (rules, the_lemmas)
 
-pub measure-item-Declaration : (join : Join) (d : Declaration) → block_item_measure join (item.Declaration d) ≡ declaration_measure join d
+pub measure-item-Declaration : (join : Join) (d : Declaration)
+    → block_item_measure join (item.Declaration d) ≡ declaration_measure join d
 measure-item-Declaration join d = search (rules, the_lemmas)
 
 pub measure-item-Statement : (join : Join) (s : Statement) → block_item_measure join (item.Statement s) ≡ statement_measure join s

@@ -1,5 +1,5 @@
-ghost use Rattle.std.specs.Prelude.{◌≡◌, ◌+◌, max};
-ghost use Rattle.c_tree.specs.Measure.{capped};
+ghost use Rattle.std.specs.Prelude.{◌≡◌, ℕ, ◌+◌, max};
+ghost use Rattle.c_tree.specs.Measure.{Join, all, capped, sum};
 
 /// How many nodes something has and how high it is; each number stands still at 2^32 - 1.
 #[derive(Clone, Copy)]
@@ -41,4 +41,26 @@ impl Extent {
             height: self.height.saturating_add(1),
         }
     }
+}
+
+/// A part of a tree, with its extent.
+pub trait Measured {
+    /// Its number, for each way to join the numbers of what stands side by side.
+    ghost measure: { Join → Self → ℕ };
+
+    fn extent(&self) -> Extent
+        ensures nodes { result.nodes ≡ capped (measure sum self.now) }
+        ensures height { result.height ≡ capped (measure max self.now) };
+}
+
+/// The extent of parts side by side.
+pub fn extent_of_all<T: Measured>(parts: &[T]) -> Extent
+    ensures nodes { result.nodes ≡ capped (all sum (T.measure sum) parts.now) }
+    ensures height { result.height ≡ capped (all max (T.measure max) parts.now) }
+{
+    let mut together = Extent::none();
+    for part in parts {
+        together = together.beside(part.extent());
+    }
+    together
 }

@@ -10,8 +10,6 @@ mod measure_statements;
 mod measure_unit;
 mod qualified;
 mod statements;
-#[cfg(test)]
-mod tests;
 mod unit;
 
 pub use declarations::{Declaration, Declr, Duration, Init, Initial, TimeUnit};

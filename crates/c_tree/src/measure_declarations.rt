@@ -3,7 +3,7 @@ ghost use Rattle.c_tree.specs.Measure as spec;
 
 use crate::declarations::{Declaration, Declr, Init, Initial};
 use crate::expression::Expr;
-use crate::extent::Extent;
+use crate::extent::{Extent, Measured, extent_of_all};
 use crate::measure_expression::{expr_extent, exprs_extent};
 
 /// The extent of an expression that may be left out.
@@ -18,11 +18,12 @@ pub fn optional_extent(expr: &Option<Expr>) -> Extent
 }
 
 /// The extent of a declarator, which is that of the bounds in it.
-pub fn declr_extent(declr: &Declr) -> Extent
-    ensures nodes { result.nodes ≡ spec.capped (spec.declr_measure spec.sum declr.now) }
-    ensures height { result.height ≡ spec.capped (spec.declr_measure max declr.now) }
-{
-    exprs_extent(declr.bounds.as_slice())
+impl Measured for Declr {
+    ghost measure = { spec.declr_measure };
+
+    fn extent(&self) -> Extent {
+        exprs_extent(self.bounds.as_slice())
+    }
 }
 
 /// The extent of what stands after the `=` of a declarator.
@@ -51,27 +52,16 @@ fn initials_extent(all: &[Initial]) -> Extent
 }
 
 /// The extent of a declarator with its initialiser.
-fn init_extent(init: &Init) -> Extent
-    ensures nodes { result.nodes ≡ spec.capped (spec.init_measure spec.sum init.now) }
-    ensures height { result.height ≡ spec.capped (spec.init_measure max init.now) }
-{
-    let initial = match &init.initial {
-        Some(initial) => initial_extent(initial),
-        None => Extent::none(),
-    };
-    declr_extent(&init.declr).beside(initial).above()
-}
+impl Measured for Init {
+    ghost measure = { spec.init_measure };
 
-/// The extent of declarators side by side.
-pub fn inits_extent(all: &[Init]) -> Extent
-    ensures nodes { result.nodes ≡ spec.capped (spec.all spec.sum (spec.init_measure spec.sum) all.now) }
-    ensures height { result.height ≡ spec.capped (spec.all max (spec.init_measure max) all.now) }
-{
-    let mut sum = Extent::none();
-    for init in all {
-        sum = sum.beside(init_extent(init));
+    fn extent(&self) -> Extent {
+        let initial = match &self.initial {
+            Some(initial) => initial_extent(initial),
+            None => Extent::none(),
+        };
+        self.declr.extent().beside(initial).above()
     }
-    sum
 }
 
 /// The extent of a declaration.
@@ -79,5 +69,5 @@ pub fn declaration_extent(declaration: &Declaration) -> Extent
     ensures nodes { result.nodes ≡ spec.capped (spec.declaration_measure spec.sum declaration.now) }
     ensures height { result.height ≡ spec.capped (spec.declaration_measure max declaration.now) }
 {
-    inits_extent(declaration.inits.as_slice())
+    extent_of_all(declaration.inits.as_slice())
 }

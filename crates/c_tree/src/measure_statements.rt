@@ -1,53 +1,31 @@
 ghost use Rattle.std.specs.Prelude.{◌≡◌, max};
 ghost use Rattle.c_tree.specs.Measure as spec;
 
-use crate::extent::Extent;
+use crate::extent::{Extent, Measured, extent_of_all};
 use crate::measure_declarations::{declaration_extent, optional_extent};
 use crate::measure_expression::expr_extent;
 use crate::statements::{
     BlockItem, Compound, First, Group, Label, Statement, StatementKind, Tname,
 };
 
-/// The extent of the names in `@expires`.
-fn tnames_extent(all: &[Tname]) -> Extent
-    ensures nodes { result.nodes ≡ spec.capped (spec.all spec.sum (spec.tname_measure spec.sum) all.now) }
-    ensures height { result.height ≡ spec.capped (spec.all max (spec.tname_measure max) all.now) }
-{
-    let mut sum = Extent::none();
-    for tname in all {
-        sum = sum.beside(tname_extent(tname));
-    }
-    sum
-}
-
 /// The extent of a name in `@expires`, which is that of its index.
-fn tname_extent(tname: &Tname) -> Extent
-    ensures nodes { result.nodes ≡ spec.capped (spec.tname_measure spec.sum tname.now) }
-    ensures height { result.height ≡ spec.capped (spec.tname_measure max tname.now) }
-{
-    optional_extent(&tname.index)
-}
+impl Measured for Tname {
+    ghost measure = { spec.tname_measure };
 
-/// The extent of the labels of a group.
-fn labels_extent(all: &[Label]) -> Extent
-    ensures nodes { result.nodes ≡ spec.capped (spec.all spec.sum (spec.label_measure spec.sum) all.now) }
-    ensures height { result.height ≡ spec.capped (spec.all max (spec.label_measure max) all.now) }
-{
-    let mut sum = Extent::none();
-    for label in all {
-        sum = sum.beside(label_extent(label));
+    fn extent(&self) -> Extent {
+        optional_extent(&self.index)
     }
-    sum
 }
 
 /// The extent of a label.
-fn label_extent(label: &Label) -> Extent
-    ensures nodes { result.nodes ≡ spec.capped (spec.label_measure spec.sum label.now) }
-    ensures height { result.height ≡ spec.capped (spec.label_measure max label.now) }
-{
-    match label {
-        Label::Case(expr) => expr_extent(expr),
-        Label::Default => Extent::none(),
+impl Measured for Label {
+    ghost measure = { spec.label_measure };
+
+    fn extent(&self) -> Extent {
+        match self {
+            Label::Case(expr) => expr_extent(expr),
+            Label::Default => Extent::none(),
+        }
     }
 }
 
@@ -122,7 +100,7 @@ pub fn statement_extent(statement: &Statement) -> Extent
             names,
             body,
             caught,
-        } => tnames_extent(names.as_slice())
+        } => extent_of_all(names.as_slice())
             .beside(compound_extent(body))
             .beside(compound_extent(caught))
             .above(),
@@ -182,7 +160,7 @@ fn group_extent(group: &Group) -> Extent
     ensures nodes { result.nodes ≡ spec.capped (spec.group_measure spec.sum group.now) }
     ensures height { result.height ≡ spec.capped (spec.group_measure max group.now) }
 {
-    labels_extent(group.labels.as_slice()).beside(statements_extent(group.statements.as_slice()))
+    extent_of_all(group.labels.as_slice()).beside(statements_extent(group.statements.as_slice()))
 }
 
 /// The extent of statements side by side.

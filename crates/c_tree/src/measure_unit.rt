@@ -1,46 +1,20 @@
 ghost use Rattle.std.specs.Prelude.{◌≡◌, max};
 ghost use Rattle.c_tree.specs.Measure as spec;
 
-use crate::declarations::Declr;
 use crate::expression::Expr;
-use crate::extent::Extent;
-use crate::measure_declarations::{
-    declaration_extent, declr_extent, inits_extent, optional_extent,
-};
+use crate::extent::{Extent, Measured, extent_of_all};
+use crate::measure_declarations::{declaration_extent, optional_extent};
 use crate::measure_expression::{expr_extent, exprs_extent};
 use crate::measure_statements::compound_extent;
 use crate::unit::{External, Function, Member, Param, Params, Struct, Tree};
 
-/// The extent of the declarators of a member.
-fn declrs_extent(all: &[Declr]) -> Extent
-    ensures nodes { result.nodes ≡ spec.capped (spec.all spec.sum (spec.declr_measure spec.sum) all.now) }
-    ensures height { result.height ≡ spec.capped (spec.all max (spec.declr_measure max) all.now) }
-{
-    let mut sum = Extent::none();
-    for declr in all {
-        sum = sum.beside(declr_extent(declr));
-    }
-    sum
-}
-
 /// The extent of members of one base type.
-fn member_extent(member: &Member) -> Extent
-    ensures nodes { result.nodes ≡ spec.capped (spec.member_measure spec.sum member.now) }
-    ensures height { result.height ≡ spec.capped (spec.member_measure max member.now) }
-{
-    declrs_extent(member.declrs.as_slice())
-}
+impl Measured for Member {
+    ghost measure = { spec.member_measure };
 
-/// The extent of the members of a struct.
-fn members_extent(all: &[Member]) -> Extent
-    ensures nodes { result.nodes ≡ spec.capped (spec.all spec.sum (spec.member_measure spec.sum) all.now) }
-    ensures height { result.height ≡ spec.capped (spec.all max (spec.member_measure max) all.now) }
-{
-    let mut sum = Extent::none();
-    for member in all {
-        sum = sum.beside(member_extent(member));
+    fn extent(&self) -> Extent {
+        extent_of_all(self.declrs.as_slice())
     }
-    sum
 }
 
 /// The extent of a struct.
@@ -48,31 +22,20 @@ fn struct_extent(defined: &Struct) -> Extent
     ensures nodes { result.nodes ≡ spec.capped (spec.struct_measure spec.sum defined.now) }
     ensures height { result.height ≡ spec.capped (spec.struct_measure max defined.now) }
 {
-    members_extent(defined.members.as_slice()).above()
+    extent_of_all(defined.members.as_slice()).above()
 }
 
 /// The extent of a parameter, which is that of the bounds in it.
-fn param_extent(param: &Param) -> Extent
-    ensures nodes { result.nodes ≡ spec.capped (spec.param_measure spec.sum param.now) }
-    ensures height { result.height ≡ spec.capped (spec.param_measure max param.now) }
-{
-    let first = match &param.first_bound {
-        Some(bound) => optional_extent(bound),
-        None => Extent::none(),
-    };
-    first.beside(exprs_extent(param.bounds.as_slice()))
-}
+impl Measured for Param {
+    ghost measure = { spec.param_measure };
 
-/// The extent of parameters side by side.
-fn param_list_extent(all: &[Param]) -> Extent
-    ensures nodes { result.nodes ≡ spec.capped (spec.all spec.sum (spec.param_measure spec.sum) all.now) }
-    ensures height { result.height ≡ spec.capped (spec.all max (spec.param_measure max) all.now) }
-{
-    let mut sum = Extent::none();
-    for param in all {
-        sum = sum.beside(param_extent(param));
+    fn extent(&self) -> Extent {
+        let first = match &self.first_bound {
+            Some(bound) => optional_extent(bound),
+            None => Extent::none(),
+        };
+        first.beside(exprs_extent(self.bounds.as_slice()))
     }
-    sum
 }
 
 /// The extent of what stands in the parentheses of a function.
@@ -82,7 +45,7 @@ fn params_extent(params: &Params) -> Extent
 {
     match params {
         Params::Void { .. } => Extent::none(),
-        Params::List(all) => param_list_extent(all.as_slice()),
+        Params::List(all) => extent_of_all(all.as_slice()),
     }
 }
 
@@ -99,29 +62,18 @@ fn function_extent(function: &Function) -> Extent
 }
 
 /// The extent of a part of a source outside functions.
-fn external_extent(external: &External) -> Extent
-    ensures nodes { result.nodes ≡ spec.capped (spec.external_measure spec.sum external.now) }
-    ensures height { result.height ≡ spec.capped (spec.external_measure max external.now) }
-{
-    match external {
-        External::Struct { defined, inits } => struct_extent(defined).beside(inits_extent(
-            inits.as_slice(),
-        )),
-        External::Function { function, .. } => function_extent(function),
-        External::Declaration { declaration, .. } => declaration_extent(declaration),
-    }
-}
+impl Measured for External {
+    ghost measure = { spec.external_measure };
 
-/// The extent of a source.
-fn externals_extent(all: &[External]) -> Extent
-    ensures nodes { result.nodes ≡ spec.capped (spec.all spec.sum (spec.external_measure spec.sum) all.now) }
-    ensures height { result.height ≡ spec.capped (spec.all max (spec.external_measure max) all.now) }
-{
-    let mut sum = Extent::none();
-    for external in all {
-        sum = sum.beside(external_extent(external));
+    fn extent(&self) -> Extent {
+        match self {
+            External::Struct { defined, inits } => struct_extent(defined).beside(extent_of_all(
+                inits.as_slice(),
+            )),
+            External::Function { function, .. } => function_extent(function),
+            External::Declaration { declaration, .. } => declaration_extent(declaration),
+        }
     }
-    sum
 }
 
 /// How many nodes a tree has: one for each expression (a parenthesised one counts itself), statement, declarator of a
@@ -129,7 +81,7 @@ fn externals_extent(all: &[External]) -> Extent
 pub fn nodes(tree: &Tree) -> u32
     ensures { result ≡ spec.capped (spec.nodes tree.now) }
 {
-    externals_extent(tree.externals.as_slice()).nodes
+    extent_of_all(tree.externals.as_slice()).nodes
 }
 
 /// The height of a tree, which is that of its highest node, and 0 without any. The height of a node is 1 above the
@@ -137,7 +89,7 @@ pub fn nodes(tree: &Tree) -> u32
 pub fn height(tree: &Tree) -> u32
     ensures { result ≡ spec.capped (spec.height tree.now) }
 {
-    externals_extent(tree.externals.as_slice()).height
+    extent_of_all(tree.externals.as_slice()).height
 }
 
 /// The height of an expression, which is 2^32 - 1 for every greater number.
