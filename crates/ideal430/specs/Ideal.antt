@@ -6,7 +6,9 @@ use Rattle.base16.specs.declared.end.EndKind.{EndKind}
 use Rattle.base16.specs.declared.end.EndKind.TheVariants.{Done, Wild as WildAt}
 use Rattle.core430.specs.Registers.{set_reg}
 use Rattle.core430.specs.Step.{State, Outcome, Next, Service as Calls, Wild, step}
-use Rattle.ideal430.specs.Service.{Block, noted_of, BlockChange, Stays, Opens, Closes, Effect, Deed, Refuses, Does, Ask, AsksNothing, AsksSensor, AsksClock, deed_at, ask_at, stores_in, block_after}
+use Rattle.ideal430.specs.Service.{Block, noted_of, BlockChange, Stays, Opens, Closes, Effect, Deed, Refuses, Does, deed_at, ask_at, stores_in, block_after}
+use Rattle.ideal430.specs.declared.service.Ask.{Ask}
+use Rattle.ideal430.specs.declared.service.Ask.TheVariants.{Nothing, Sensor, Clock}
 use Rattle.ideal430.specs.Costs.{is_noting, effect_ticks, effect_entries, length_after, due_of}
 use Rattle.ideal430.specs.Settled.{Bytes, no_bytes, stores_bytes, settled_after, settled_again}
 use Rattle.core430.specs.Uses.{step_changes}
@@ -140,9 +142,9 @@ timing n t (reading.Sense c value ∷ rest) = stopped t NeedsReading
 timing n t (reading.Clock ms ∷ rest) = doing (with_left t rest) (deed_here n ms t)
 
 abbrev pub asking : (n : ℕ) → Ideal → Ask → Ideal
-asking n t AsksNothing = doing t (deed_here n 0 t)
-asking n t (AsksSensor channel) = sensing n t channel t.left
-asking n t AsksClock = timing n t t.left
+asking n t Nothing = doing t (deed_here n 0 t)
+asking n t (Sensor channel) = sensing n t channel t.left
+asking n t Clock = timing n t t.left
 
 -- service n, as its call leaves the machine
 abbrev pub served : (n : ℕ) → Ideal → Ideal

@@ -6,3 +6,4 @@ pub mod Ideal
 pub mod Uses
 pub mod Agreement
 pub mod Loaded
+pub mod Shown

@@ -10,6 +10,8 @@ use Rattle.base16.specs.declared.end.EndKind.TheVariants.{StackFull, BlockFull, 
 use Rattle.core430.specs.Registers.{set_reg}
 use Rattle.core430.specs.Bytes.{word_address, with_byte}
 use Rattle.ideal430.specs.Places.{is_even, is_in_segment, is_above, may_store}
+use Rattle.ideal430.specs.declared.service.Ask.{Ask}
+use Rattle.ideal430.specs.declared.service.Ask.TheVariants.{Nothing, Sensor, Clock}
 use Rattle.ideal430.specs.declared.service.Service.{Service}
 use Rattle.ideal430.specs.declared.service.Service.TheVariants.{Halt, Enter, Leave, Turn, StoreWord, StoreByte, StampWord, StampByte, Sense, Emit, Open, Check, Close, Timely, Checkpoint}
 use Rattle.ideal430.specs.declared.service.Store.{Store}
@@ -331,31 +333,26 @@ deed_at n value r m segment block = deed_if_built (service_at n) n value r m seg
 -- ---- readings
 
 -- what a service asks of the outside
-pub data Ask : Type 0 where
-  AsksNothing : Ask
-  AsksSensor : (channel : ℕ) → Ask
-  AsksClock : Ask
-
 abbrev pub own_ask : Service → (ℕ → ℕ) → Ask
-own_ask StampWord r = AsksClock
-own_ask StampByte r = AsksClock
-own_ask Sense r = AsksSensor (r 15)
-own_ask Open r = AsksClock
-own_ask Check r = AsksClock
-own_ask Close r = AsksClock
-own_ask Timely r = AsksClock
-own_ask service r = AsksNothing
+own_ask StampWord r = Clock
+own_ask StampByte r = Clock
+own_ask Sense r = Sensor (r 15)
+own_ask Open r = Clock
+own_ask Check r = Clock
+own_ask Close r = Clock
+own_ask Timely r = Clock
+own_ask service r = Nothing
 
 abbrev pub ask_if : Option EndKind → Ask → Ask
 ask_if None ask = ask
-ask_if (Some kind) ask = AsksNothing
+ask_if (Some kind) ask = Nothing
 
 -- a service that is refused asks nothing
 abbrev pub ask_of : Service → (r m : ℕ → ℕ) (segment : ℕ) → Block → Ask
 ask_of service r m segment block = ask_if (refusal_of service r m segment block) (own_ask service r)
 
 abbrev pub ask_if_built : Option Service → (r m : ℕ → ℕ) (segment : ℕ) → Block → Ask
-ask_if_built None r m segment block = AsksNothing
+ask_if_built None r m segment block = Nothing
 ask_if_built (Some service) r m segment block = ask_of service r m segment block
 
 abbrev pub ask_at : (n : ℕ) (r m : ℕ → ℕ) (segment : ℕ) → Block → Ask
@@ -363,15 +360,15 @@ ask_at n r m segment block = ask_if_built (service_at n) r m segment block
 
 -- the readings that are taken where the outside gives this value
 abbrev pub taken_of : Ask → ℕ → List Reading
-taken_of AsksNothing value = []
-taken_of (AsksSensor channel) value = reading.Sense channel value ∷ []
-taken_of AsksClock value = reading.Clock value ∷ []
+taken_of Nothing value = []
+taken_of (Sensor channel) value = reading.Sense channel value ∷ []
+taken_of Clock value = reading.Clock value ∷ []
 
 -- a service that asks nothing has the value 0
 abbrev pub IsNothing : Ask → ℕ → Type 0
-IsNothing AsksNothing value = value ≡ 0
-IsNothing (AsksSensor channel) value = Unit {0}
-IsNothing AsksClock value = Unit {0}
+IsNothing Nothing value = value ≡ 0
+IsNothing (Sensor channel) value = Unit {0}
+IsNothing Clock value = Unit {0}
 
 -- ---- stores
 

@@ -2,6 +2,9 @@
 //! code with these services, and when a checkpoint is due and what it all takes in ticks.
 #![tactic(auto)]
 
+mod causes;
+mod deed;
 mod service;
 
-pub use service::{Service, Store};
+pub use deed::{Deed, Stores, deed_of, refusal};
+pub use service::{Ask, Service, Store, ask_of, service_at};

@@ -1,3 +1,9 @@
+ghost use Rattle.std.specs.Prelude.{◌≡◌};
+ghost use Rattle.core430.specs.Registers.{view_of};
+ghost use Rattle.ideal430.specs.Service.{service_of as service_of_number, is_built as is_built_by_now, service_at as service_at_number, own_ask};
+
+use base16::Regs;
+
 /// What a running program asks of the board by a call of the address FF00 + 2 n (hexadecimal), in the order of n.
 #[derive(Clone, Copy, Debug, PartialEq, Eq)]
 pub enum Service {
@@ -42,4 +48,83 @@ pub enum Store {
     Byte { address: u16, byte: u8 },
     /// The link word at the top of a new segment, an even byte address.
     Link { address: u16, word: u16 },
+}
+
+/// What a service asks of the outside.
+#[derive(Clone, Copy, Debug, PartialEq, Eq)]
+pub enum Ask {
+    Nothing,
+    /// The next value of the sensor of a channel, from 0 to 15.
+    Sensor { channel: u16 },
+    /// The clock, in milliseconds.
+    Clock,
+}
+
+/// The service of a number, from 0 to 14.
+fn service_of(n: u16) -> Option<Service>
+    ensures { result ≡ service_of_number n }
+{
+    match n {
+        0 => Some(Service::Halt),
+        1 => Some(Service::Enter),
+        2 => Some(Service::Leave),
+        3 => Some(Service::Turn),
+        4 => Some(Service::StoreWord),
+        5 => Some(Service::StoreByte),
+        6 => Some(Service::StampWord),
+        7 => Some(Service::StampByte),
+        8 => Some(Service::Sense),
+        9 => Some(Service::Emit),
+        10 => Some(Service::Open),
+        11 => Some(Service::Check),
+        12 => Some(Service::Close),
+        13 => Some(Service::Timely),
+        14 => Some(Service::Checkpoint),
+        _ => None,
+    }
+}
+
+/// Whether the board has a service by now.
+fn is_built(service: Service) -> bool
+    ensures { result ≡ is_built_by_now service }
+{
+    !matches!(
+        service,
+        Service::StampWord
+            | Service::StampByte
+            | Service::Open
+            | Service::Check
+            | Service::Close
+            | Service::Timely
+    )
+}
+
+/// The service of a number, if the board has it by now.
+pub fn service_at(n: u16) -> Option<Service>
+    ensures { result ≡ service_at_number n }
+{
+    let service = service_of(n)?;
+    if is_built(service) {
+        Some(service)
+    } else {
+        None
+    }
+}
+
+/// What a service that is not refused asks of the outside, by the registers that it finds.
+pub fn ask_of(service: Service, regs: &Regs) -> Ask
+    ensures { result ≡ own_ask service (view_of regs.now.r) }
+{
+    match service {
+        Service::StampWord
+        | Service::StampByte
+        | Service::Open
+        | Service::Check
+        | Service::Close
+        | Service::Timely => Ask::Clock,
+        Service::Sense => Ask::Sensor {
+            channel: regs.r[15],
+        },
+        _ => Ask::Nothing,
+    }
 }
