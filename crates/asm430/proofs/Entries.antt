@@ -6,7 +6,8 @@ use Rattle.std.proofs.lemmas.List.{append_assoc, append-nil, append_cancel_left,
 use Rattle.isa430.specs.declared.instr.Instr.{Instr}
 use Rattle.isa430.specs.declared.instr.Instr.TheVariants.{Two, One, Jump}
 use Rattle.isa430.specs.Table.{code_of, valid, size_of, decode_words}
-use Rattle.asm430.specs.Listing.{Entry, Instruction, Datum, entry_words, words_of_entries, BeginWithNone, StandsBefore, AreStanding, IsReading, are_valid, codes_of, instructions, entry_line, entry_lines, data_line, data_lines, hex4, line, spaced_words}
+use Rattle.base16.specs.Hexadecimal.{hex4}
+use Rattle.asm430.specs.Listing.{Entry, Instruction, Datum, entry_words, words_of_entries, BeginWithNone, StandsBefore, AreStanding, IsReading, are_valid, codes_of, instructions, entry_line, entry_lines, data_line, data_lines, line, spaced_words}
 use Rattle.asm430.specs.Printing.{Leads, IsFirstAdded, AreAdded, Begun}
 
 -- the law of decoding a list of words

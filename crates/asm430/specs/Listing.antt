@@ -2,6 +2,7 @@
 use Rattle.std.specs.Prelude.{◌≡◌, ℕ, ◌+◌, ◌*◌, ◌/◌, ◌%◌, Bool, true, ◌&&◌, List, [], ◌∷◌, ◌++◌, length, take, drop, Option, Some, None, if◌then◌else◌, nat_lt, codes, IsTrue}
 use Rattle.std.specs.List.{flat_map}
 use Rattle.std.specs.Fmt.{decimal}
+use Rattle.base16.specs.Hexadecimal.{hex4}
 use Rattle.base16.specs.declared.image.Scalar.{Scalar}
 use Rattle.base16.specs.declared.image.FuncSym.{FuncSym}
 use Rattle.base16.specs.declared.image.Image.{Image}
@@ -56,13 +57,6 @@ instructions [] = []
 instructions (instr ∷ rest) = Instruction instr ∷ instructions rest
 
 -- ---- lines
-
-abbrev pub hex_digit : ℕ → ℕ
-hex_digit d = if nat_lt d 10 then 48 + d else 87 + d
-
--- four hexadecimal digits
-abbrev pub hex4 : ℕ → List ℕ
-hex4 w = hex_digit (w / 4096) ∷ hex_digit (w / 256 % 16) ∷ hex_digit (w / 16 % 16) ∷ hex_digit (w % 16) ∷ []
 
 -- a line feed ends each line
 abbrev pub line : List ℕ → List ℕ

@@ -1,11 +1,13 @@
-ghost use Rattle.std.specs.Prelude.{◌≡◌, ℕ, ◌+◌, ◌*◌, ◌^◌, ◌<◌, ◌≤◌, [], ◌++◌, length, IfOk, IfErr, OnOk, IsTrue};
+ghost use Rattle.std.specs.Prelude.{◌≡◌, ℕ, ◌+◌, ◌*◌, ◌^◌, ◌<◌, ◌≤◌, [], ◌++◌, length, IfOk, IfErr, IfSome, OnOk, IsTrue};
 ghost use Rattle.isa430.specs.Table.{code_of, offset_formed};
 ghost use Rattle.isa430.specs.Table.{valid as valid_instr};
 ghost use Rattle.asm430.specs.Assembly.{are_formed, words_in, place_of, address, offset, load, call, item_words, StandInOrder, StandInMemory, faults, first, IsCause};
+ghost use Rattle.asm430.specs.LabelTable.{HasLabels};
 ghost use Rattle.asm430.specs.Emission.{is_ready, are_ready, words_from};
 
 use crate::item::{AsmErr, Item};
-use crate::labels::{distance, first_fault, place_of, words_of};
+use crate::faults::{distance, first_fault};
+use crate::places::{LabelTable, label_table, place_of, words_of};
 use base16::NoMemory;
 use isa430::{Dst, Instr, OneOp, Src, TwoOp, encode};
 use std::alloc::Global;
@@ -21,27 +23,29 @@ fn push_instr(words: &mut Vec<u16>, instr: &Instr) -> Result<(), NoMemory>
 }
 
 /// The byte address of a label, 0 if it does not stand exactly once.
-fn address(items: &[Item], label: u64) -> u16
+fn address(items: &[Item], table: &Option<LabelTable>, label: u64) -> u16
     requires formed { IsTrue (are_formed items.now) }
     requires few { length items.now < 2 ^ 32 }
+    requires table { IfSome table.now (λ made. HasLabels items.now made) }
     requires short { words_in items.now ≤ 14336 }
     ensures { result ≡ address (place_of items.now label) }
 {
-    match place_of(items, label) {
+    match place_of(items, table, label) {
         None => 0,
         Some(target) => 0x8000 + 2 * target as u16,
     }
 }
 
 /// The offset of a jump that is not far.
-fn offset(items: &[Item], place: u64, label: u64) -> i16
+fn offset(items: &[Item], table: &Option<LabelTable>, place: u64, label: u64) -> i16
     requires formed { IsTrue (are_formed items.now) }
     requires few { length items.now < 2 ^ 32 }
+    requires table { IfSome table.now (λ made. HasLabels items.now made) }
     requires place { place < 2 ^ 40 }
     requires near { IsTrue (offset_formed (offset place (place_of items.now label))) }
     ensures { result ≡ offset place (place_of items.now label) }
 {
-    match place_of(items, label) {
+    match place_of(items, table, label) {
         None => 0,
         Some(target) => distance(place, target) as i16,
     }
@@ -71,9 +75,16 @@ fn call(value: u16) -> Instr
 }
 
 /// Adds the words of an item that stands at a place.
-fn push_item(items: &[Item], place: u64, item: &Item, words: &mut Vec<u16>) -> Result<(), NoMemory>
+fn push_item(
+    items: &[Item],
+    table: &Option<LabelTable>,
+    place: u64,
+    item: &Item,
+    words: &mut Vec<u16>,
+) -> Result<(), NoMemory>
     requires formed { IsTrue (are_formed items.now) }
     requires few { length items.now < 2 ^ 32 }
+    requires table { IfSome table.now (λ made. HasLabels items.now made) }
     requires short { words_in items.now ≤ 14336 }
     requires place { place < 2 ^ 40 }
     requires ready { IsTrue (is_ready items.now place item.now) }
@@ -83,13 +94,13 @@ fn push_item(items: &[Item], place: u64, item: &Item, words: &mut Vec<u16>) -> R
         Item::Instr(instr) => push_instr(words, &instr),
         Item::Label(_) => Ok(()),
         Item::Jump(cond, label) => {
-            let offset = offset(items, place, label);
+            let offset = offset(items, table, place, label);
             push_instr(words, &Instr::Jump { cond, offset })
         }
-        Item::Branch(label) => push_instr(words, &load(address(items, label), 0)),
-        Item::CallTo(label) => push_instr(words, &call(address(items, label))),
+        Item::Branch(label) => push_instr(words, &load(address(items, table, label), 0)),
+        Item::CallTo(label) => push_instr(words, &call(address(items, table, label))),
         Item::AddressOf(label, register) => {
-            push_instr(words, &load(address(items, label), register))
+            push_instr(words, &load(address(items, table, label), register))
         }
         Item::Word(word) => {
             words.push(word)?;
@@ -99,9 +110,10 @@ fn push_item(items: &[Item], place: u64, item: &Item, words: &mut Vec<u16>) -> R
 }
 
 /// The words of items without a fault.
-fn emit(alloc: Global, items: &[Item]) -> Result<Vec<u16>, NoMemory>
+fn emit(alloc: Global, items: &[Item], table: &Option<LabelTable>) -> Result<Vec<u16>, NoMemory>
     requires formed { IsTrue (are_formed items.now) }
     requires few { length items.now < 2 ^ 32 }
+    requires table { IfSome table.now (λ made. HasLabels items.now made) }
     requires short { words_in items.now ≤ 14336 }
     requires ready { IsTrue (are_ready items.now 0 items.now) }
     ensures { IfOk result (λ words. words.items ≡ words_from items.now 0 items.now) }
@@ -109,7 +121,7 @@ fn emit(alloc: Global, items: &[Item]) -> Result<Vec<u16>, NoMemory>
     let mut words = Vec::new(alloc);
     let mut place = 0;
     for item in items {
-        push_item(items, place, item, &mut words)?;
+        push_item(items, table, place, item, &mut words)?;
         place += words_of(item);
     }
     Ok(words)
@@ -129,10 +141,11 @@ pub fn assemble(alloc: Global, items: &[Item]) -> Result<Vec<u16>, AsmErr>
     ensures faultless { OnOk result (faults items.now ≡ []) }
     ensures cause { IfErr result (λ fault. IsCause (faults items.now) fault) }
 {
-    if let Some(fault) = first_fault(items) {
+    let table = label_table(alloc, items).ok();
+    if let Some(fault) = first_fault(items, &table) {
         return Err(fault);
     }
-    match emit(alloc, items) {
+    match emit(alloc, items, &table) {
         Ok(words) => Ok(words),
         Err(_) => Err(AsmErr::NoMemory),
     }

@@ -2,8 +2,9 @@
 #![tactic(auto)]
 
 mod assembler;
+mod faults;
 mod item;
-mod labels;
+mod places;
 mod printed;
 
 pub use assembler::assemble;

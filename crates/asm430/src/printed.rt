@@ -2,10 +2,11 @@
 
 ghost use Rattle.std.specs.Prelude.{◌≡◌, ◌<◌, ◌≤◌, ◌+◌, ◌*◌, ◌++◌, length, MatchOption, OnOk, IfOk, slice_index, ℕ, List, IsTrue};
 ghost use Rattle.isa430.specs.declared.instr.Instr.{Instr};
-ghost use Rattle.asm430.specs.Listing.{hex_digit, hex4, line, spaced_words, data_line, data_lines, global_line, stamp_line, function_line, symbol_lines, Entry, BeginWithNone, IsReading, are_valid, codes_of, instructions, IsListing};
+ghost use Rattle.asm430.specs.Listing.{line, spaced_words, data_line, data_lines, global_line, stamp_line, function_line, symbol_lines, Entry, BeginWithNone, IsReading, are_valid, codes_of, instructions, IsListing};
+ghost use Rattle.base16.specs.Hexadecimal.{hex4};
 ghost use Rattle.asm430.specs.Printing.{Leads, IsFirstAdded, AreAdded};
 
-use base16::{FuncSym, Image, NoMemory, Scalar};
+use base16::{FuncSym, Image, NoMemory, Scalar, hex4};
 use isa430::{decode, decode_of_encode, encode};
 use std::alloc::Global;
 
@@ -15,29 +16,6 @@ fn push_text(text: &mut Vec<u8>, more: &[u8]) -> Result<(), NoMemory>
 {
     text.extend_from_slice(more)?;
     Ok(())
-}
-
-fn hex_digit(digit: u16) -> u8
-    requires { digit < 16 }
-    ensures { result ≡ hex_digit digit }
-{
-    if digit < 10 {
-        b'0' + digit as u8
-    } else {
-        b'a' - 10 + digit as u8
-    }
-}
-
-/// The four hexadecimal digits of a word.
-fn hex4(word: u16) -> [u8; 4]
-    ensures { result ≡ hex4 word }
-{
-    [
-        hex_digit(word / 4096),
-        hex_digit(word / 256 % 16),
-        hex_digit(word / 16 % 16),
-        hex_digit(word % 16),
-    ]
 }
 
 /// Adds a text, a word in four hexadecimal digits, and a text.

@@ -11,9 +11,6 @@ emit-requires-clause-short c = (faultless c.args.items.now c.in_default.ensures)
 pub emit-requires-clause-ready : goal.emit-requires-clause-ready
 emit-requires-clause-ready c = ready c.args.items.now 0 0 c.args.items.now c.requires.formed (faultless c.args.items.now c.in_default.ensures).near
 
-pub returns-in-Err-clause-cause : goal.returns-in-Err-clause-cause
-returns-in-Err-clause-cause c = (faultless c.args.items.now c.in_default.ensures).none
-
 pub returns-in-Ok-clause-order : goal.returns-in-Ok-clause-order
 returns-in-Ok-clause-order c = placed c.args.items.now _ c.in-Ok.ensures
 

@@ -1,14 +1,14 @@
 -- One item more, and the end.
 use Rattle.std.proofs.Common.{arith, sym, ◌∙◌}
-use Rattle.asm430.proofs.Steps.{filler, none_of, formed_next, within_step, places_step_found, places_step_passed, within_found, within_passed, twice_some, ended}
-use Rattle.asm430.proofs.labels.place_of.Goals as goal
-use Rattle.asm430.proofs.labels.place_of.Goals.{then-is_label+else-is_some, else-is_label}
+use Rattle.asm430.proofs.Steps.{filler, none_of, formed_next, places_step_found, places_step_passed, twice_some, ended}
+use Rattle.asm430.proofs.places.walked_place.Goals as goal
+use Rattle.asm430.proofs.places.walked_place.Goals.{then-is_label+else-is_some, else-is_label}
 
 pub words_of-place-requires : goal.words_of-place-requires
 words_of-place-requires c = (formed_next _ _ _ c.loop-item-test.true c.loop-item.invariant.formed).0
 
-pub returns-clause-value : goal.returns-clause-value
-returns-clause-value c = ended _ _ _ _ _ c.loop-item-test.false c.loop-item.invariant.places
+pub returns : goal.returns
+returns c = ended _ _ _ _ _ c.loop-item-test.false c.loop-item.invariant.places
 
 pub loop-item-preserved : goal.loop-item-preserved
 loop-item-preserved c = record {
@@ -21,15 +21,10 @@ loop-item-preserved c = record {
         w.found-is c.words_of-place.ensures.value c.loop-item.invariant.places
   ];
   formed = (formed_next _ _ filler c.loop-item-test.true c.loop-item.invariant.formed).1;
-  before = within_step _ _ filler _ _ _ c.loop-item-test.true c.words_of-place.ensures.value c.loop-item.invariant.before;
   small = omega arith;
-  within = elim c.if-is_label.branch [
-    | then-is_label+else-is_some w ↦ within_found _ _ _ w.found-is
-    | else-is_label w ↦ within_passed _ _ _ _ w.found-is c.loop-item.invariant.within
-  ];
 }
 
-pub returns-then-is_some-clause-value : goal.returns-then-is_some-clause-value
-returns-then-is_some-clause-value c =
+pub returns-then-is_some : goal.returns-then-is_some
+returns-then-is_some c =
     twice_some _ _ filler _ _ _ _ c.loop-item-test.true (sym c.is_label.ensures ∙ c.if-is_label.true) c.is_some.ensures c.if-is_some.true
     c.loop-item.invariant.places

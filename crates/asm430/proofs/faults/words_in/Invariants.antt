@@ -1,6 +1,6 @@
 use Rattle.std.proofs.Common.{◌≡◌, ◌+◌, ◌*◌, ◌≤◌, drop, IsTrue}
 use Rattle.asm430.specs.Assembly.{are_formed, words_in}
-use Rattle.asm430.proofs.labels.words_in.Given as goal
+use Rattle.asm430.proofs.faults.words_in.Given as goal
 
 abbrev pub invariant-loop-item : goal.invariant-loop-item
 invariant-loop-item l = record {

@@ -1,7 +1,7 @@
 -- the first fault of all is the first of those that are left
 use Rattle.std.proofs.Common.{◌≡◌, ◌*◌, ◌≤◌, drop, IsTrue}
 use Rattle.asm430.specs.Assembly.{far_in, first, are_formed}
-use Rattle.asm430.proofs.labels.first_far.Given as goal
+use Rattle.asm430.proofs.faults.first_far.Given as goal
 
 abbrev pub invariant-loop-item : goal.invariant-loop-item
 invariant-loop-item l = record {

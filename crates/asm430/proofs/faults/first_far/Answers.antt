@@ -1,7 +1,7 @@
 -- One item more.
 use Rattle.std.proofs.Common.{arith}
 use Rattle.asm430.proofs.Steps.{filler, formed_next, far_step}
-use Rattle.asm430.proofs.labels.first_far.Goals as goal
+use Rattle.asm430.proofs.faults.first_far.Goals as goal
 
 pub words_of-place-requires : goal.words_of-place-requires
 words_of-place-requires c = (formed_next _ _ _ c.loop-item-test.true c.loop-item.invariant.formed).0

@@ -1,55 +1,11 @@
-// Which place a label denotes, and what is at fault.
+// What is at fault.
 
 ghost use Rattle.std.specs.Prelude.{◌≡◌, ℕ, ◌+◌, ◌^◌, ◌<◌, ◌≤◌, length, IfSome, IsTrue};
-ghost use Rattle.asm430.specs.Assembly.{are_formed, is_formed, words_of, words_in, is_label, place_of, used, distance, unbound_by, unbound_in, far_by, far_in, first, faults};
+ghost use Rattle.asm430.specs.Assembly.{are_formed, words_of, words_in, place_of, used, distance, unbound_by, unbound_in, far_by, far_in, first, faults};
+ghost use Rattle.asm430.specs.LabelTable.{HasLabels};
 
 use crate::item::{AsmErr, Item};
-use isa430::encode;
-
-/// The words that an item takes, from 0 to 3.
-pub fn words_of(item: &Item) -> u64
-    requires { IsTrue (is_formed item.now) }
-    ensures value { result ≡ words_of item.now }
-    ensures range { result ≤ 3 }
-{
-    match *item {
-        Item::Instr(instr) => u64::from(encode(&instr).len),
-        Item::Label(_) => 0,
-        Item::Jump(_, _) | Item::Word(_) => 1,
-        Item::Branch(_) | Item::CallTo(_) | Item::AddressOf(_, _) => 2,
-    }
-}
-
-fn is_label(label: u64, item: &Item) -> bool
-    ensures { result ≡ is_label label item.now }
-{
-    match *item {
-        Item::Label(other) => other == label,
-        _ => false,
-    }
-}
-
-/// The place of a label in words, if it stands exactly once.
-pub fn place_of(items: &[Item], label: u64) -> Option<u64>
-    requires formed { IsTrue (are_formed items.now) }
-    requires few { length items.now < 2 ^ 32 }
-    ensures value { result ≡ place_of items.now label }
-    ensures within { IfSome result (λ place. place ≤ words_in items.now) }
-    ensures small { IfSome result (λ place. place < 2 ^ 40) }
-{
-    let mut found = None;
-    let mut place = 0;
-    for item in items {
-        if is_label(label, item) {
-            if found.is_some() {
-                return None;
-            }
-            found = Some(place);
-        }
-        place += words_of(item);
-    }
-    found
-}
+use crate::places::{LabelTable, place_of, words_of};
 
 fn used(item: &Item) -> Option<u64>
     ensures { result ≡ used item.now }
@@ -64,28 +20,30 @@ fn used(item: &Item) -> Option<u64>
 }
 
 /// The label that an item uses, if it does not stand exactly once.
-fn unbound(items: &[Item], item: &Item) -> Option<AsmErr>
+fn unbound(items: &[Item], table: &Option<LabelTable>, item: &Item) -> Option<AsmErr>
     requires formed { IsTrue (are_formed items.now) }
     requires few { length items.now < 2 ^ 32 }
+    requires table { IfSome table.now (λ made. HasLabels items.now made) }
     ensures { result ≡ first (unbound_by items.now (used item.now)) }
 {
     let Some(label) = used(item) else {
         return None;
     };
-    match place_of(items, label) {
+    match place_of(items, table, label) {
         Some(_) => None,
         None => Some(AsmErr::Unbound { label }),
     }
 }
 
 /// The first used label that does not stand exactly once.
-fn first_unbound(items: &[Item]) -> Option<AsmErr>
+fn first_unbound(items: &[Item], table: &Option<LabelTable>) -> Option<AsmErr>
     requires formed { IsTrue (are_formed items.now) }
     requires few { length items.now < 2 ^ 32 }
+    requires table { IfSome table.now (λ made. HasLabels items.now made) }
     ensures { result ≡ first (unbound_in items.now items.now) }
 {
     for item in items {
-        let fault = unbound(items, item);
+        let fault = unbound(items, table, item);
         if fault.is_some() {
             return fault;
         }
@@ -103,16 +61,17 @@ pub fn distance(place: u64, target: u64) -> i64
 }
 
 /// A jump that goes too far.
-fn far(items: &[Item], number: u32, place: u64, item: &Item) -> Option<AsmErr>
+fn far(items: &[Item], table: &Option<LabelTable>, number: u32, place: u64, item: &Item) -> Option<AsmErr>
     requires formed { IsTrue (are_formed items.now) }
     requires few { length items.now < 2 ^ 32 }
+    requires table { IfSome table.now (λ made. HasLabels items.now made) }
     requires place { place < 2 ^ 40 }
     ensures { result ≡ first (far_by items.now number place item.now) }
 {
     let Item::Jump(_, label) = *item else {
         return None;
     };
-    let Some(target) = place_of(items, label) else {
+    let Some(target) = place_of(items, table, label) else {
         return None;
     };
     let distance = distance(place, target);
@@ -127,15 +86,16 @@ fn far(items: &[Item], number: u32, place: u64, item: &Item) -> Option<AsmErr>
 }
 
 /// The first jump that goes too far.
-fn first_far(items: &[Item]) -> Option<AsmErr>
+fn first_far(items: &[Item], table: &Option<LabelTable>) -> Option<AsmErr>
     requires formed { IsTrue (are_formed items.now) }
     requires few { length items.now < 2 ^ 32 }
+    requires table { IfSome table.now (λ made. HasLabels items.now made) }
     ensures { result ≡ first (far_in items.now 0 0 items.now) }
 {
     let mut number = 0;
     let mut place = 0;
     for item in items {
-        let fault = far(items, number, place, item);
+        let fault = far(items, table, number, place, item);
         if fault.is_some() {
             return fault;
         }
@@ -159,16 +119,17 @@ fn words_in(items: &[Item]) -> u64
 }
 
 /// The first fault: of a label, then of a jump, then of the length.
-pub fn first_fault(items: &[Item]) -> Option<AsmErr>
+pub fn first_fault(items: &[Item], table: &Option<LabelTable>) -> Option<AsmErr>
     requires formed { IsTrue (are_formed items.now) }
     requires few { length items.now < 2 ^ 32 }
+    requires table { IfSome table.now (λ made. HasLabels items.now made) }
     ensures { result ≡ first (faults items.now) }
 {
-    let unbound = first_unbound(items);
+    let unbound = first_unbound(items, table);
     if unbound.is_some() {
         return unbound;
     }
-    let far = first_far(items);
+    let far = first_far(items, table);
     if far.is_some() {
         return far;
     }

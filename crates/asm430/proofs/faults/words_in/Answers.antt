@@ -1,7 +1,7 @@
 -- One item more.
 use Rattle.std.proofs.Common.{arith}
 use Rattle.asm430.proofs.Steps.{filler, formed_next, within_step}
-use Rattle.asm430.proofs.labels.words_in.Goals as goal
+use Rattle.asm430.proofs.faults.words_in.Goals as goal
 
 pub words_of-words-requires : goal.words_of-words-requires
 words_of-words-requires c = (formed_next _ _ _ c.loop-item-test.true c.loop-item.invariant.formed).0
