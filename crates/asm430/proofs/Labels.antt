@@ -1,10 +1,9 @@
 -- Which places a label has: in lists one after another, with one item more, and in a table.
-use Rattle.std.proofs.Common.{◌≡◌, ◌≢◌, ℕ, ◌+◌, ◌*◌, ◌<◌, ◌≤◌, refl, sym, ap, ◌∙◌, subst, arith, Bool, true, false, List, [], ◌∷◌, ◌++◌, length, length-append, append_assoc, take, get_or, Option, Some, None, if◌then◌else◌}
+use Rattle.std.proofs.Common.{◌≡◌, ℕ, ◌+◌, ◌*◌, ◌<◌, ◌≤◌, refl, sym, ap, ◌∙◌, subst, arith, Bool, true, false, List, [], ◌∷◌, ◌++◌, length, length-append, append_assoc, take, get_or, Option, Some, None, if◌then◌else◌}
 use Rattle.std.specs.Prelude.{◌^◌, nat_eq, IfSome}
 use Rattle.std.specs.Option.{option_flatten}
 use Rattle.std.specs.BTreeMap.{BTreeMap, get}
 use Rattle.std.specs.Ordering.{nat_cmp}
-use Rattle.std.proofs.lemmas.Bool.{ne_eqb, eq-eqb, cases_eq}
 use Rattle.std.proofs.lemmas.List.{take_more, append-nil}
 use Rattle.isa430.specs.declared.instr.Instr.{Instr}
 use Rattle.isa430.specs.declared.instr.Instr.TheVariants.{Two, One, Jump as JumpBy}
@@ -29,7 +28,7 @@ places_append label start [] ys = let e : start ≡ start + 0 = omega arith in a
 places_append label start (x ∷ xs) ys =
     let e : start + words_of x + words_in xs ≡ start + (words_of x + words_in xs) = omega arith in
     ap (λ (k : List ℕ). (if is_label label x then start ∷ [] else []) ++ k)
-      (places_append label (start + words_of x) xs ys ∙ ap (λ (k : ℕ). places_from label (start + words_of x) xs ++ places_from label k ys) e)
+    (places_append label (start + words_of x) xs ys ∙ ap (λ (k : ℕ). places_from label (start + words_of x) xs ++ places_from label k ys) e)
     ∙ sym (append_assoc (if is_label label x then start ∷ [] else []) (places_from label (start + words_of x) xs) (places_from label (start + words_in (x ∷ xs)) ys))
 
 -- ---- one item more
@@ -59,8 +58,8 @@ pub labels_passed : (items : List Item) (i : ℕ) (d : Item) (table : BTreeMap �
 labels_passed items i d table lt none h = λ label.
     h label
     ∙ ap kept_of (sym (places_more items i d label lt
-      ∙ ap (λ (b : Bool). places_from label 0 (take i items) ++ ((if b then (0 + words_in (take i items)) ∷ [] else []) ++ [])) (none label)
-      ∙ append-nil (places_from label 0 (take i items))))
+    ∙ ap (λ (b : Bool). places_from label 0 (take i items) ++ ((if b then (0 + words_in (take i items)) ∷ [] else []) ++ [])) (none label)
+    ∙ append-nil (places_from label 0 (take i items))))
 
 pub labels_noted : (items : List Item) (i : ℕ) (d : Item) (label place : ℕ) (before after : BTreeMap ℕ (Option ℕ)) → i < length items →
     get_or items i d ≡ Label label → place ≡ words_in (take i items) → HasLabels (take i items) before → Notes before after label place →

@@ -1,16 +1,15 @@
 -- Items one after another: where they stand, which labels they have, and which instructions they are.
-use Rattle.std.proofs.Common.{◌≡◌, ◌≢◌, ℕ, ◌+◌, ◌*◌, ◌<◌, ◌≤◌, refl, sym, ap, ◌∙◌, subst, arith, Bool, true, false, ◌&&◌, ◌⊎◌, inl, inr, List, [], ◌∷◌, ◌++◌, length, length-append, append_assoc, Option, Some, None, if◌then◌else◌}
+use Rattle.std.proofs.Common.{◌≡◌, ◌≢◌, ℕ, ◌+◌, ◌*◌, ◌<◌, ◌≤◌, refl, sym, ap, ◌∙◌, subst, arith, Bool, true, false, ◌&&◌, ◌⊎◌, inl, inr, List, [], ◌∷◌, ◌++◌, length, length-append, append_assoc, if◌then◌else◌}
 use Rattle.std.specs.Prelude.{map, IsTrue, nat_le, nat_lt}
 use Rattle.std.specs.Option.{option_to_list}
 use Rattle.std.proofs.lemmas.Bool.{and_parts, and_from, ne_eqb}
 use Rattle.std.proofs.lemmas.List.{append-nil}
 use Rattle.std.proofs.lemmas.Bool.Decides.{nat_tests}
 use Rattle.isa430.specs.declared.instr.Instr.{Instr}
-use Rattle.isa430.specs.declared.instr.Instr.TheVariants.{Jump as JumpBy}
 use Rattle.isa430.specs.Table.{code_of, valid, offset_formed, WordsAt}
 use Rattle.asm430.specs.declared.item.Item.{Item}
 use Rattle.asm430.specs.declared.item.Item.TheVariants.{Instr as Plain, Label, Jump, Branch, CallTo, AddressOf, Word}
-use Rattle.asm430.specs.Assembly.{are_formed, words_of, words_in, is_label, places_from, place_of, the_only, address, offset, load, call, item_words, StandFrom, StandInMemory, faults, first}
+use Rattle.asm430.specs.Assembly.{are_formed, words_of, words_in, is_label, places_from, place_of, the_only, address, offset, load, item_words, StandFrom, StandInMemory, faults, first}
 use Rattle.asm430.specs.Emission.{is_ready, are_ready}
 use Rattle.asm430.specs.Instructions.{instr_of, instrs_from, is_code, are_code, LabelIn, LabelsIn}
 use Rattle.asm430.specs.Listing.{codes_of, are_valid}
@@ -29,9 +28,10 @@ pub ready_append : (all : List Item) (start : ℕ) (xs ys : List Item) → IsTru
 ready_append all start [] ys h = (refl, let e : start ≡ start + 0 = omega arith in subst (λ (k : ℕ). IsTrue (are_ready all k ys)) e h)
 ready_append all start (x ∷ xs) ys h =
     let parts = and_parts (is_ready all start x) (are_ready all (start + words_of x) (xs ++ ys)) h in
-    let k = ready_append all (start + words_of x) xs ys parts.1 in
-    (and_from (is_ready all start x) (are_ready all (start + words_of x) xs) parts.0 k.0,
-     let e : start + words_of x + words_in xs ≡ start + (words_of x + words_in xs) = omega arith in subst (λ (j : ℕ). IsTrue (are_ready all j ys)) e k.1)
+    let k = ready_append all (start + words_of x) xs ys parts.1 in (
+      and_from (is_ready all start x) (are_ready all (start + words_of x) xs) parts.0 k.0,
+      let e : start + words_of x + words_in xs ≡ start + (words_of x + words_in xs) = omega arith in subst (λ (j : ℕ). IsTrue (are_ready all j ys)) e k.1,
+    )
 
 -- ---- which labels they have
 
@@ -98,7 +98,7 @@ instrs_append all start [] ys = let e : start ≡ start + 0 = omega arith in ap 
 instrs_append all start (x ∷ xs) ys =
     let e : start + words_of x + words_in xs ≡ start + (words_of x + words_in xs) = omega arith in
     ap (λ (k : List Instr). option_to_list (instr_of all start x) ++ k)
-      (instrs_append all (start + words_of x) xs ys ∙ ap (λ (k : ℕ). instrs_from all (start + words_of x) xs ++ instrs_from all k ys) e)
+    (instrs_append all (start + words_of x) xs ys ∙ ap (λ (k : ℕ). instrs_from all (start + words_of x) xs ++ instrs_from all k ys) e)
     ∙ sym (append_assoc (option_to_list (instr_of all start x)) (instrs_from all (start + words_of x) xs) (instrs_from all (start + words_in (x ∷ xs)) ys))
 
 -- instructions that stand as items are these
@@ -142,8 +142,8 @@ instrs_stand all m start (item ∷ rest) c h =
     let e : 0x8000 + 2 * (start + words_of item) ≡ 0x8000 + 2 * start + 2 * length (item_words all start item) = omega arith in
     let more = subst (λ (a : ℕ). WordsAt m a (codes_of (instrs_from all (start + words_of item) rest))) e (instrs_stand all m (start + words_of item) rest parts.1 h.1) in
     let whole : item_words all start item ++ codes_of (instrs_from all (start + words_of item) rest) ≡ codes_of (instrs_from all start (item ∷ rest)) =
-          ap (λ (k : List ℕ). k ++ codes_of (instrs_from all (start + words_of item) rest)) (item_code all start item parts.0)
-          ∙ sym (codes_append (option_to_list (instr_of all start item)) (instrs_from all (start + words_of item) rest)) in
+    ap (λ (k : List ℕ). k ++ codes_of (instrs_from all (start + words_of item) rest)) (item_code all start item parts.0)
+    ∙ sym (codes_append (option_to_list (instr_of all start item)) (instrs_from all (start + words_of item) rest)) in
     subst (λ (ws : List ℕ). WordsAt m (0x8000 + 2 * start) ws) whole (words_join m (0x8000 + 2 * start) (item_words all start item) _ h.0 more)
 
 -- they have as many words

@@ -5,8 +5,8 @@ ghost use Rattle.asm430.specs.Assembly.{are_formed, words_in, place_of, address,
 ghost use Rattle.asm430.specs.LabelTable.{HasLabels};
 ghost use Rattle.asm430.specs.Emission.{is_ready, are_ready, words_from};
 
-use crate::item::{AsmErr, Item};
 use crate::faults::{distance, first_fault};
+use crate::item::{AsmErr, Item};
 use crate::places::{LabelTable, label_table, place_of, words_of};
 use base16::NoMemory;
 use isa430::{Dst, Instr, OneOp, Src, TwoOp, encode};

@@ -61,7 +61,13 @@ pub fn distance(place: u64, target: u64) -> i64
 }
 
 /// A jump that goes too far.
-fn far(items: &[Item], table: &Option<LabelTable>, number: u32, place: u64, item: &Item) -> Option<AsmErr>
+fn far(
+    items: &[Item],
+    table: &Option<LabelTable>,
+    number: u32,
+    place: u64,
+    item: &Item,
+) -> Option<AsmErr>
     requires formed { IsTrue (are_formed items.now) }
     requires few { length items.now < 2 ^ 32 }
     requires table { IfSome table.now (λ made. HasLabels items.now made) }

@@ -10,6 +10,3 @@ mod printed;
 pub use assembler::assemble;
 pub use item::{AsmErr, Item};
 pub use printed::{code_is_read_in_one_way, listing};
-
-#[cfg(test)]
-mod tests;

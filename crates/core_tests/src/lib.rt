@@ -1,6 +1,10 @@
-//! Tests of the 16-bit core: single steps, and runs of several.
+//! Tests of the 16-bit core: single steps, runs of several, the helper routines, and the assembler.
 #![tactic(auto)]
 
+#[cfg(test)]
+mod assembler;
+#[cfg(test)]
+mod routines;
 #[cfg(test)]
 mod runs;
 #[cfg(test)]

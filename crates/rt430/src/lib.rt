@@ -4,6 +4,3 @@
 mod words;
 
 pub use words::{Helper, routine};
-
-#[cfg(test)]
-mod tests;

@@ -42,17 +42,18 @@ pub fn routine(which: Helper) -> &'static [u16]
     }
 }
 
-/// R12 times R13, modulo 2^16.
+/// R12 times R13, modulo 2^16, bit by bit from the lowest of R12 on, until none is left.
 static MULTIPLICATION: [u16; 11] = [
-    0x430e, // MOV #0,R14
-    0x403f, 16, // MOV #16,R15: the bits of R12
-    0x5e0e, // again: ADD R14,R14
-    0x5c0c, // ADD R12,R12
-    0x2801, // JNC on
+    0xee0e, // XOR R14,R14: the sum, and no carry
+    0x100c, // RRC R12
+    0x2801, // again: JNC on
     0x5d0e, // ADD R13,R14
-    0x831f, // on: SUB #1,R15
-    0x23fa, // JNZ again
-    0x4e0c, // MOV R14,R12
+    0x5d0d, // on: ADD R13,R13
+    0x110c, // RRA R12
+    0x23fb, // JNZ again
+    0x2801, // JNC done
+    0x5d0e, // ADD R13,R14: the highest bit
+    0x4e0c, // done: MOV R14,R12
     0x4130, // RET
 ];
 

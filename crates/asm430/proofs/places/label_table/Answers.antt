@@ -1,5 +1,5 @@
 -- One item more, and the end.
-use Rattle.std.proofs.Common.{arith, sym}
+use Rattle.std.proofs.Common.{arith}
 use Rattle.asm430.proofs.Steps.{filler, formed_next}
 use Rattle.asm430.proofs.Labels.{labels_noted, labels_passed, no_label, here_step}
 use Rattle.asm430.proofs.places.label_table.Goals as goal

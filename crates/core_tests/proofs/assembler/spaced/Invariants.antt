@@ -1,6 +1,6 @@
 use Rattle.std.proofs.Common.{◌≡◌, ◌+◌, length, IsTrue}
 use Rattle.asm430.specs.Assembly.{are_formed}
-use Rattle.asm430.proofs.tests.spaced.Given as goal
+use Rattle.core_tests.proofs.assembler.spaced.Given as goal
 
 abbrev pub invariant-loop-i : goal.invariant-loop-i
 invariant-loop-i l = record {

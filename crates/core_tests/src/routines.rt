@@ -1,6 +1,6 @@
-use super::*;
 use base16::{NoMemory, Regs};
 use core430::{Memory, PlainMemory};
+use rt430::{Helper, routine};
 use run430::run;
 use std::alloc::Global;
 use std::test::Fail;

@@ -1,7 +1,7 @@
 ghost use Rattle.std.specs.Prelude.{◌≡◌, ◌+◌, ◌^◌, ◌<◌, ◌≤◌, length, IfOk, IsTrue};
 ghost use Rattle.asm430.specs.Assembly.{are_formed, is_formed};
 
-use crate::{AsmErr, Item, assemble, code_is_read_in_one_way, listing};
+use asm430::{AsmErr, Item, assemble, code_is_read_in_one_way, listing};
 use base16::{FuncSym, Image, Kind, Name, NoMemory, Scalar, Sequence, Symbols};
 use isa430::{Cond, Dst, Instr, Src, TwoOp};
 use std::alloc::{AllocError, Global};
@@ -46,7 +46,7 @@ fn check_fault(rt: &impl Abort, alloc: Global, items: &[Item], fault: AsmErr)
 }
 
 /// Two items with words between them.
-#[tactic(auto, using(crate::proofs::Steps::formed_push))]
+#[tactic(auto, using(asm430::proofs::Steps::formed_push))]
 fn spaced(alloc: Global, first: Item, words: u32, last: Item) -> Result<Vec<Item>, AllocError>
     requires first { IsTrue (is_formed first) }
     requires last { IsTrue (is_formed last) }
