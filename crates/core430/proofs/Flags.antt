@@ -2,7 +2,7 @@
 use Rattle.std.proofs.Common.{◌≡◌, ◌<◌, ◌≤◌, ℕ, ◌+◌, ◌*◌, ◌/◌, ◌%◌, Bool, true, false, nat_eq, refl, ap, ◌∙◌, arith}
 use Rattle.core430.specs.Status.{bit, carry_of, zero_of, negative_of, overflow_of, is_off, with_flags}
 
-bit_below : (b : Bool) → bit b ≤ 1
+pub bit_below : (b : Bool) → bit b ≤ 1
 bit_below true = omega arith
 bit_below false = omega arith
 

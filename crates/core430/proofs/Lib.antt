@@ -1,5 +1,12 @@
+pub mod Depends
+pub mod Effects
 pub mod Flags
+pub mod Frame
 pub mod Outcomes
+pub mod SameBytes
+pub mod Sizes
 pub mod StepLemmas
+pub mod Truths
 pub mod Validity
 pub mod Widths
+pub mod WordSizes

@@ -1,7 +1,7 @@
 -- Which bytes of memory a step uses, and which it changes. A byte is used where the registers, the bytes that are changed
 -- or the end of the step may depend on it. MOV does not use its destination. A byte that is written leaves the other byte
 -- of its word as it is, so that byte is neither used nor changed.
-use Rattle.std.specs.Prelude.{◌≡◌, ◌⊎◌, ℕ, ◌+◌, ◌%◌, Bool, true, false, not, ◌&&◌, ◌||◌, Option, Some, None, nat_eq, nat_lt}
+use Rattle.std.specs.Prelude.{◌≡◌, ◌<◌, ◌⊎◌, ℕ, ◌+◌, ◌%◌, Bool, true, false, not, ◌&&◌, ◌||◌, Option, Some, None, nat_eq, nat_lt}
 use Rattle.base16.specs.Memory.{put}
 use Rattle.isa430.specs.declared.instr.TwoOp.{TwoOp}
 use Rattle.isa430.specs.declared.instr.TwoOp.TheVariants.{Mov, Add, Addc, Subc, Sub, Cmp, Bit, Bic, Bis, Xor, And}
@@ -129,6 +129,10 @@ StepDependsOnUses denied s =
     (p : ℕ → Bool) (k : ℕ → ℕ) → SameOn p s.memory k → IsWithin (step_uses s) p
     → EndAlike (joined p (step_changes s)) (step denied s) (step denied (record { regs = s.regs; memory = k }))
 
+-- words of 16 bits
+abbrev pub AreWords : (ℕ → ℕ) → Type 0
+AreWords f = (a : ℕ) → f a < 65536
+
 -- a byte after an outcome that was not refused
 abbrev pub IsLeft : (ℕ → ℕ) → ℕ → Outcome → Type 0
 IsLeft m b (Next t) = byte_at t.memory b ≡ byte_at m b
@@ -137,10 +141,28 @@ IsLeft m b (Wild a) = Unit {0}
 
 -- a step changes no byte but those of its set
 abbrev pub ChangesItsBytes : (ℕ → Bool) → State → Type 0
-ChangesItsBytes denied s = (b : ℕ) → step_changes s b ≡ false → IsLeft s.memory b (step denied s)
+ChangesItsBytes denied s = AreWords s.memory → (b : ℕ) → step_changes s b ≡ false → IsLeft s.memory b (step denied s)
+
+-- registers and memory after an outcome that was not refused
+abbrev pub LeavesWords : Outcome → Type 0
+LeavesWords (Next t) = AreWords t.regs × AreWords t.memory
+LeavesWords (Service n t) = AreWords t.regs × AreWords t.memory
+LeavesWords (Wild a) = Unit {0}
+
+-- a step leaves words where it found words
+abbrev pub KeepsWords : (ℕ → Bool) → State → Type 0
+KeepsWords denied s = AreWords s.regs → AreWords s.memory → LeavesWords (step denied s)
 
 -- under a gate that denies more, a step is the same, or it is refused at an address that this gate alone denies
 abbrev pub OnlyRefuses : (ℕ → Bool) → (ℕ → Bool) → State → Type 0
 OnlyRefuses more fewer s =
     ((a : ℕ) → fewer a ≡ true → more a ≡ true)
     → (step more s ≡ step fewer s) ⊎ ((a : ℕ) × (more a ≡ true) × (fewer a ≡ false) × (step more s ≡ Wild a))
+
+-- and the same over a memory that agrees on the bytes that the step uses
+abbrev pub FollowsUnderGate : (ℕ → Bool) → (ℕ → Bool) → State → Type 0
+FollowsUnderGate more fewer s =
+    ((a : ℕ) → fewer a ≡ true → more a ≡ true)
+    → (p : ℕ → Bool) (k : ℕ → ℕ) → SameOn p s.memory k → IsWithin (step_uses s) p
+    → EndAlike (joined p (step_changes s)) (step fewer s) (step more (record { regs = s.regs; memory = k }))
+    ⊎ ((a : ℕ) × (more a ≡ true) × (fewer a ≡ false) × (step more (record { regs = s.regs; memory = k }) ≡ Wild a))

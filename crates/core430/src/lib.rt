@@ -4,6 +4,7 @@
 mod arithmetic;
 mod change;
 mod instruction;
+mod laws;
 mod machine;
 mod memory;
 mod operand;
@@ -11,6 +12,7 @@ mod plain;
 mod registers;
 mod status;
 
+pub use laws::{gates_only_refuse, steps_change_their_bytes, steps_depend_on_uses};
 pub use machine::{Ready, Stepped, execute, fetch, step};
 pub use memory::{Denied, Memory};
 pub use plain::PlainMemory;

@@ -67,7 +67,7 @@ comes_back denied base size pc limit answer s even few h w =
     let m = s.memory in
     let sp = s.regs 1 in
     let here = subst (λ (k : ℕ). Here s.memory base (base + size) k (Two Mov false (Increment 1) (ToReg 0))) (sym w.so.place) h in
-    let back = returns denied (RoutineReads base size (s.regs 1)) (RoutineWrites (s.regs 1)) s.memory base (base + size) (owns base size (s.regs 1)) (s.regs 1) w.end s.memory (Agrees-self s.memory base (base + size)) here w.so.stack even (inr refl) in
+    let back = returns denied (RoutineReads base size (s.regs 1)) (RoutineWrites (s.regs 1)) s.memory base (base + size) (owns base size (s.regs 1)) (s.regs 1) w.end s.memory (Agrees-self s.memory base (base + size)) here w.so.stack even (inr (inl refl), inr (inr refl)) in
     record {
       steps = w.steps;
       within = omega (arith, w.within, few);

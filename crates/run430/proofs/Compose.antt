@@ -1,12 +1,12 @@
 -- Runs one after another, runs of the relation and of the function, and what a run leaves as it was.
-use Rattle.std.proofs.Common.{◌≡◌, ◌≢◌, ℕ, zero, suc, ◌+◌, ◌-◌, ◌<◌, ◌≤◌, refl, sym, ap, ◌∙◌, subst, arith, Bool, true, false, Option, Some, None, List, [], ◌∷◌, if◌then◌else◌, nat_eq, ◌%◌}
-use Rattle.base16.specs.Memory.{put}
-use Rattle.isa430.specs.declared.instr.Instr.{Instr}
-use Rattle.core430.specs.Instructions.{Effect, Sets, Stores, Faults, effect_of}
-use Rattle.core430.specs.Step.{State, Outcome, Next, Service, Wild, is_service, arrive, past, finish, execute_if, fetched, step, reads_of, writes_of}
-use Rattle.run430.specs.Run.{then_run, run, AllAre, TouchesIf, Touches, StepTo, Runs, AnyWord}
+use Rattle.std.proofs.Common.{◌≡◌, ℕ, zero, suc, ◌+◌, ◌-◌, ◌<◌, ◌≤◌, refl, sym, ap, ◌∙◌, subst, arith, Bool, true, false}
+use Rattle.core430.specs.Bytes.{byte_at}
+use Rattle.core430.specs.Step.{State, Outcome, Next, Service, Wild, step}
+use Rattle.core430.specs.Uses.{step_changes, AreWords, IsLeft, LeavesWords}
+use Rattle.core430.proofs.Frame.{step_left}
+use Rattle.core430.proofs.WordSizes.{step_words}
+use Rattle.run430.specs.Run.{then_run, run, Touches, StepTo, Runs, SteadyRuns, AnyByte}
 use Rattle.run430.specs.Routine.{Goes}
-use Rattle.run430.proofs.Words.{put-other}
 
 pub Runs-append : (denied : ℕ → Bool) (R W : ℕ → Type 0) (n k : ℕ) (s t u : State) → Runs denied R W n s t → Runs denied R W k t u → Runs denied R W (n + k) s u
 Runs-append denied R W zero k s t u a b = subst (λ (x : State). Runs denied R W (zero + k) x u) (sym a) (let e : k ≡ zero + k = omega arith in subst (λ (x : ℕ). Runs denied R W x t u) e b)
@@ -51,16 +51,8 @@ pub Runs-run : (denied : ℕ → Bool) (R W : ℕ → Type 0) (n : ℕ) (s t : S
 Runs-run denied R W zero s t h = ap Next h
 Runs-run denied R W (suc n) s t h = ap (λ (o : Outcome). then_run o (run denied n)) h.1.goes ∙ Runs-run denied R W n h.0 t h.2
 
-any_all : (xs : List ℕ) → AllAre AnyWord xs
-any_all [] = tt
-any_all (x ∷ xs) = (tt, any_all xs)
-
-any_if : (o : Option Instr) (s : State) → TouchesIf AnyWord AnyWord o s
-any_if None s = tt
-any_if (Some i) s = (any_all (reads_of (s.regs 0) i (past i s.regs)), any_all (writes_of (effect_of (s.regs 0) i (past i s.regs) s.memory)))
-
--- a run of the function is one of the relation, if any word may be read and written
-pub run-Runs : (denied : ℕ → Bool) (n : ℕ) (s t : State) → run denied n s ≡ Next t → Runs denied AnyWord AnyWord n s t
+-- a run of the function is one of the relation, if any byte may be used and changed
+pub run-Runs : (denied : ℕ → Bool) (n : ℕ) (s t : State) → run denied n s ≡ Next t → Runs denied AnyByte AnyByte n s t
 run-Runs denied zero s t h = same h
   where
     same : Next s ≡ Next t → s ≡ t
@@ -73,76 +65,65 @@ run-Runs denied (suc n) s t h = from denied n s t (step denied s) refl h (λ u k
     no_wild : (a : ℕ) (t : State) → Wild a ≡ Next t → ⊥
     no_wild a t k = cc
 
-    from : (denied : ℕ → Bool) (n : ℕ) (s t : State) (o : Outcome) → step denied s ≡ o → then_run o (run denied n) ≡ Next t → ((u : State) → run denied n u ≡ Next t → Runs denied AnyWord AnyWord n u t) → (u : State) × StepTo denied AnyWord AnyWord s u × Runs denied AnyWord AnyWord n u t
-    from denied n s t (Next u) e k f = (u, record { goes = e; touches = any_if (fetched s) s }, f u k)
+    from : (denied : ℕ → Bool) (n : ℕ) (s t : State) (o : Outcome) → step denied s ≡ o → then_run o (run denied n) ≡ Next t → ((u : State) → run denied n u ≡ Next t → Runs denied AnyByte AnyByte n u t) → (u : State) × StepTo denied AnyByte AnyByte s u × Runs denied AnyByte AnyByte n u t
+    from denied n s t (Next u) e k f = (u, record { goes = e; touches = (λ b h. tt, λ b h. tt) }, f u k)
     from denied n s t (Service a u) e k f = absurd (no_service a u t k)
     from denied n s t (Wild a) e k f = absurd (no_wild a t k)
 
 -- ---- wider footprints
 
-all_wider : (P Q : ℕ → Type 0) → ((a : ℕ) → P a → Q a) → (xs : List ℕ) → AllAre P xs → AllAre Q xs
-all_wider P Q f [] h = tt
-all_wider P Q f (x ∷ xs) h = (f x h.0, all_wider P Q f xs h.1)
-
-if_wider : (R R2 W W2 : ℕ → Type 0) → ((a : ℕ) → R a → R2 a) → ((a : ℕ) → W a → W2 a) → (o : Option Instr) (s : State) → TouchesIf R W o s → TouchesIf R2 W2 o s
-if_wider R R2 W W2 f g None s h = tt
-if_wider R R2 W W2 f g (Some i) s h = (all_wider R R2 f (reads_of (s.regs 0) i (past i s.regs)) h.0, all_wider W W2 g (writes_of (effect_of (s.regs 0) i (past i s.regs) s.memory)) h.1)
-
 pub Touches-wider : (R R2 W W2 : ℕ → Type 0) → ((a : ℕ) → R a → R2 a) → ((a : ℕ) → W a → W2 a) → (s : State) → Touches R W s → Touches R2 W2 s
-Touches-wider R R2 W W2 f g s h = if_wider R R2 W W2 f g (fetched s) s h
+Touches-wider R R2 W W2 f g s h = (λ b e. f b (h.0 b e), λ b e. g b (h.1 b e))
 
 pub Runs-wider : (denied : ℕ → Bool) (R R2 W W2 : ℕ → Type 0) → ((a : ℕ) → R a → R2 a) → ((a : ℕ) → W a → W2 a) → (n : ℕ) (s t : State) → Runs denied R W n s t → Runs denied R2 W2 n s t
 Runs-wider denied R R2 W W2 f g zero s t h = h
 Runs-wider denied R R2 W W2 f g (suc n) s t h =
     (h.0, record { goes = h.1.goes; touches = Touches-wider R R2 W W2 f g s h.1.touches }, Runs-wider denied R R2 W W2 f g n h.0 t h.2)
 
--- ---- a word that is not written stays
+-- ---- a byte that is not changed stays
 
-arrived : (b : Bool) (n : ℕ) (s t : State) → (if b then Service n s else Next s) ≡ Next t → s ≡ t
-arrived true n s t e = absurd (no_service e)
+-- after one step, which leaves words where it found words
+pub step-kept : (denied : ℕ → Bool) (R W : ℕ → Type 0) (s t : State) (b : ℕ) → AreWords s.memory → StepTo denied R W s t → (W b → ⊥) → byte_at t.memory b ≡ byte_at s.memory b
+step-kept denied R W s t b words h none =
+    subst (IsLeft s.memory b) h.goes (step_left denied s words b (at (step_changes s b) refl))
   where
-    no_service : Service n s ≡ Next t → ⊥
-    no_service k = cc
-arrived false n s t e = cc
+    at : (x : Bool) → step_changes s b ≡ x → step_changes s b ≡ false
+    at true e = absurd (none (h.touches.1 b e))
+    at false e = e
 
-finished : (denied : ℕ → Bool) (W : ℕ → Type 0) (m : ℕ → ℕ) (e : Effect) (t : State) (a : ℕ) → AllAre W (writes_of e) → finish denied m e ≡ Next t → (W a → ⊥) → t.memory a ≡ m a
-finished denied W m (Sets r) t a w e n = ap (λ (x : State). x.memory a) (sym (arrived (is_service (r 0)) _ (record { regs = r; memory = m }) t e))
-finished denied W m (Stores r b v) t a w e n = stored (denied b) e
-  where
-    stored : (d : Bool) → (if d then Wild b else arrive r (put m b v)) ≡ Next t → t.memory a ≡ m a
-    stored true k = absurd (no_wild k)
-      where
-        no_wild : Wild b ≡ Next t → ⊥
-        no_wild k = cc
-    stored false k =
-        let apart : a ≢ b = λ x. n (subst W (sym x) w.0) in
-        ap (λ (x : State). x.memory a) (sym (arrived (is_service (r 0)) _ (record { regs = r; memory = put m b v }) t k)) ∙ put-other m b a v apart
-finished denied W m (Faults b) t a w e n = absurd (no_wild e)
-  where
-    no_wild : Wild b ≡ Next t → ⊥
-    no_wild k = cc
+pub step-words : (denied : ℕ → Bool) (R W : ℕ → Type 0) (s t : State) → AreWords s.regs → AreWords s.memory → StepTo denied R W s t → AreWords t.regs × AreWords t.memory
+step-words denied R W s t hr hm h = subst LeavesWords h.goes (step_words denied s hr hm)
 
-executed : (denied : ℕ → Bool) (R W : ℕ → Type 0) (o : Option Instr) (s t : State) (a : ℕ) → TouchesIf R W o s → execute_if denied o s ≡ Next t → (W a → ⊥) → t.memory a ≡ s.memory a
-executed denied R W None s t a h e n = absurd (no_wild e)
-  where
-    no_wild : Wild (s.regs 0) ≡ Next t → ⊥
-    no_wild k = cc
-executed denied R W (Some i) s t a h e n = finished denied W s.memory (effect_of (s.regs 0) i (past i s.regs) s.memory) t a h.1 e n
+pub Runs-words : (denied : ℕ → Bool) (R W : ℕ → Type 0) (n : ℕ) (s t : State) → AreWords s.regs → AreWords s.memory → Runs denied R W n s t → AreWords t.regs × AreWords t.memory
+Runs-words denied R W zero s t hr hm h = (subst (λ (x : State). AreWords x.regs) h hr, subst (λ (x : State). AreWords x.memory) h hm)
+Runs-words denied R W (suc n) s t hr hm h = let w = step-words denied R W s h.0 hr hm h.1 in Runs-words denied R W n h.0 t w.0 w.1 h.2
 
-pub step-kept : (denied : ℕ → Bool) (R W : ℕ → Type 0) (s t : State) (a : ℕ) → StepTo denied R W s t → (W a → ⊥) → t.memory a ≡ s.memory a
-unfolding step
-step-kept denied R W s t a h n = from (nat_eq (s.regs 0 % 2) 0) h.goes
-  where
-    no_wild : Wild (s.regs 0) ≡ Next t → ⊥
-    no_wild k = cc
+pub Runs-kept : (denied : ℕ → Bool) (R W : ℕ → Type 0) (n : ℕ) (s t : State) (b : ℕ) → AreWords s.regs → AreWords s.memory → Runs denied R W n s t → (W b → ⊥) → byte_at t.memory b ≡ byte_at s.memory b
+Runs-kept denied R W zero s t b hr hm h k = ap (λ (x : State). byte_at x.memory b) (sym h)
+Runs-kept denied R W (suc n) s t b hr hm h k =
+    let w = step-words denied R W s h.0 hr hm h.1 in
+    Runs-kept denied R W n h.0 t b w.0 w.1 h.2 k ∙ step-kept denied R W s h.0 b hm h.1 k
 
-    from : (b : Bool) → (if b then execute_if denied (fetched s) s else Wild (s.regs 0)) ≡ Next t → t.memory a ≡ s.memory a
-    from true e = executed denied R W (fetched s) s t a h.touches e n
-    from false e = absurd (no_wild e)
+-- ---- runs that keep SP from rising
 
-pub Runs-kept : (denied : ℕ → Bool) (R W : ℕ → Type 0) (n : ℕ) (s t : State) (a : ℕ) → Runs denied R W n s t → (W a → ⊥) → t.memory a ≡ s.memory a
-Runs-kept denied R W zero s t a h k = ap (λ (x : State). x.memory a) (sym h)
-Runs-kept denied R W (suc n) s t a h k = Runs-kept denied R W n h.0 t a h.2 k ∙ step-kept denied R W s h.0 a h.1 k
+pub SteadyRuns-Runs : (denied : ℕ → Bool) (R W : ℕ → Type 0) (top n : ℕ) (s t : State) → SteadyRuns denied R W top n s t → Runs denied R W n s t
+SteadyRuns-Runs denied R W top zero s t h = h
+SteadyRuns-Runs denied R W top (suc n) s t h = (h.0, h.1, SteadyRuns-Runs denied R W top n h.0 t h.3)
+
+pub SteadyRuns-append : (denied : ℕ → Bool) (R W : ℕ → Type 0) (top n k : ℕ) (s t u : State) → SteadyRuns denied R W top n s t → SteadyRuns denied R W top k t u → SteadyRuns denied R W top (n + k) s u
+SteadyRuns-append denied R W top zero k s t u a b = subst (λ (x : State). SteadyRuns denied R W top (zero + k) x u) (sym a) (let e : k ≡ zero + k = omega arith in subst (λ (x : ℕ). SteadyRuns denied R W top x t u) e b)
+SteadyRuns-append denied R W top (suc n) k s t u a b =
+    let e : suc (n + k) ≡ suc n + k = omega arith in
+    subst (λ (x : ℕ). SteadyRuns denied R W top x s u) e (a.0, a.1, a.2, SteadyRuns-append denied R W top n k a.0 t u a.3 b)
+
+pub SteadyRuns-wider : (denied : ℕ → Bool) (R R2 W W2 : ℕ → Type 0) (top top2 : ℕ) → ((a : ℕ) → R a → R2 a) → ((a : ℕ) → W a → W2 a) → top ≤ top2 → (n : ℕ) (s t : State) → SteadyRuns denied R W top n s t → SteadyRuns denied R2 W2 top2 n s t
+SteadyRuns-wider denied R R2 W W2 top top2 f g l zero s t h = h
+SteadyRuns-wider denied R R2 W W2 top top2 f g l (suc n) s t h =
+    (h.0, record { goes = h.1.goes; touches = Touches-wider R R2 W W2 f g s h.1.touches }, omega (arith, h.2, l), SteadyRuns-wider denied R R2 W W2 top top2 f g l n h.0 t h.3)
+
+-- one more step
+pub steadily : (denied : ℕ → Bool) (R W : ℕ → Type 0) (top n : ℕ) (s u t : State) → Runs denied R W 1 s u → u.regs 1 ≤ top → SteadyRuns denied R W top n u t → SteadyRuns denied R W top (suc n) s t
+steadily denied R W top n s u t h l rest = (u, subst (λ (x : State). StepTo denied R W s x) h.2 h.1, l, rest)
 
 -- ---- stretches
 

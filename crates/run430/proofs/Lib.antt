@@ -9,3 +9,4 @@ pub mod FlagLemmas
 pub mod Kept
 pub mod Bytes
 pub mod Stopping
+pub mod Steady

@@ -32,13 +32,13 @@ pub record IsCall (denied : ℕ → Bool) (ws : List ℕ) (base x y : ℕ) (s : 
   pub second : s.regs 13 ≡ y
   pub second_word : y < 65536
 
--- the words that a routine may read: its own and its return word
+-- the bytes that a routine may use: those of its own words and of its return word
 abbrev pub RoutineReads : ℕ → ℕ → ℕ → ℕ → Type 0
-RoutineReads base size sp a = ((base ≤ a) × (a < base + size)) ⊎ (a ≡ sp)
+RoutineReads base size sp b = ((base ≤ b) × (b < base + size)) ⊎ ((b ≡ sp) ⊎ (b ≡ sp + 1))
 
--- the word below its return word is all that it may write
+-- the bytes of the word below its return word are all that it may change
 abbrev pub RoutineWrites : ℕ → ℕ → Type 0
-RoutineWrites sp a = a ≡ lowered sp
+RoutineWrites sp b = (b ≡ lowered sp) ⊎ (b ≡ lowered sp + 1)
 
 -- R4 to R7 are as they were
 abbrev pub IsKept : (ℕ → ℕ) → (ℕ → ℕ) → Type 0

@@ -1,21 +1,24 @@
 ghost use Rattle.std.specs.Prelude.{◌≡◌, ◌≤◌, ◌<◌, ◌+◌, ◌*◌, ◌%◌, ℕ, Bool, List, length, IsTrue, false};
 ghost use Rattle.isa430.specs.declared.instr.Instr.{Instr};
 ghost use Rattle.isa430.specs.Table.{WordsAt};
+ghost use Rattle.core430.specs.Bytes.{byte_at};
 ghost use Rattle.core430.specs.Step.{State, Next};
-ghost use Rattle.run430.specs.Run.{run as run_of, Runs, AnyWord, Named, then_run};
+ghost use Rattle.core430.specs.Uses.{AreWords};
+ghost use Rattle.run430.specs.Run.{run as run_of, Runs, AnyByte, Named, then_run};
 ghost use Rattle.run430.specs.Code.{Placed, are_valid, words_of_code};
 
 /// The relation between two states that a run of so many steps leads from one to the other holds just where the steps
-/// do, and a word outside those that the run may write stays as it was.
+/// do. From words of 16 bits a run leads to such words, and a byte outside those that it may change stays as it was.
 pub fn run_is_steps()
-    ensures leads { (denied reads writes : ℕ → Bool) → (n : ℕ) → (s t : State) → Runs denied (Named reads) (Named writes) n s t → run_of denied n s ≡ Next t }
-    ensures back { (denied : ℕ → Bool) → (n : ℕ) → (s t : State) → run_of denied n s ≡ Next t → Runs denied AnyWord AnyWord n s t }
-    ensures kept { (denied reads writes : ℕ → Bool) → (n : ℕ) → (s t : State) → (a : ℕ) → Runs denied (Named reads) (Named writes) n s t → writes a ≡ false → t.memory a ≡ s.memory a }
+    ensures leads { (denied uses changes : ℕ → Bool) → (n : ℕ) → (s t : State) → Runs denied (Named uses) (Named changes) n s t → run_of denied n s ≡ Next t }
+    ensures back { (denied : ℕ → Bool) → (n : ℕ) → (s t : State) → run_of denied n s ≡ Next t → Runs denied AnyByte AnyByte n s t }
+    ensures words { (denied uses changes : ℕ → Bool) → (n : ℕ) → (s t : State) → AreWords s.regs → AreWords s.memory → Runs denied (Named uses) (Named changes) n s t → AreWords t.regs × AreWords t.memory }
+    ensures kept { (denied uses changes : ℕ → Bool) → (n : ℕ) → (s t : State) → (b : ℕ) → AreWords s.regs → AreWords s.memory → Runs denied (Named uses) (Named changes) n s t → changes b ≡ false → byte_at t.memory b ≡ byte_at s.memory b }
 {}
 
 /// Runs one after another are one run.
 pub fn runs_compose()
-    ensures relation { (denied reads writes : ℕ → Bool) → (n k : ℕ) → (s t u : State) → Runs denied (Named reads) (Named writes) n s t → Runs denied (Named reads) (Named writes) k t u → Runs denied (Named reads) (Named writes) (n + k) s u }
+    ensures relation { (denied uses changes : ℕ → Bool) → (n k : ℕ) → (s t u : State) → Runs denied (Named uses) (Named changes) n s t → Runs denied (Named uses) (Named changes) k t u → Runs denied (Named uses) (Named changes) (n + k) s u }
     ensures function { (denied : ℕ → Bool) → (n k : ℕ) → (s : State) → run_of denied (n + k) s ≡ then_run (run_of denied n s) (run_of denied k) }
 {}
 

@@ -1,7 +1,7 @@
 ghost use Rattle.std.specs.Prelude.{◌≡◌, ◌-◌};
 ghost use Rattle.core430.specs.Registers.{view_of};
-ghost use Rattle.core430.specs.Shown.{OnWild, outcome_shown};
-ghost use Rattle.run430.specs.Run.{run as run_of, IsReached};
+ghost use Rattle.core430.specs.Shown.{outcome_shown};
+ghost use Rattle.run430.specs.Run.{run as run_of, OnRefusal};
 
 use base16::Regs;
 use core430::{Memory, Stepped, step};
@@ -10,8 +10,10 @@ use core430::{Memory, Stepped, step};
 /// refusal registers and memory are those that the refused step found.
 pub fn run<M: Memory>(n: u32, regs: &mut Regs, memory: &mut M) -> Stepped
     ensures is { outcome_shown result (view_of regs.new.r) (M.words memory.new) ≡ run_of (M.denied memory.old) n (record { regs = view_of regs.old.r; memory = M.words memory.old }) }
-    ensures wild { OnWild result (IsReached (M.denied memory.old) n (record { regs = view_of regs.old.r; memory = M.words memory.old }) (record { regs = view_of regs.new.r; memory = M.words memory.new })) }
+    ensures wild { OnRefusal result (M.denied memory.old) n (record { regs = view_of regs.old.r; memory = M.words memory.old }) (record { regs = view_of regs.new.r; memory = M.words memory.new }) }
     ensures kept { M.denied memory.new ≡ M.denied memory.old }
+    ensures lender { M.lender memory.new ≡ M.lender memory.old }
+    ensures aside { M.aside memory.new ≡ M.aside memory.old }
 {
     let mut left = n;
     while left > 0 {

@@ -10,6 +10,8 @@ invariant-loop-left g l =
     (l.left ≤ l.fn.n)
     × (run_of (g.M.Memory.denied l.fn.memory) (l.fn.n - l.left) (record { regs = view_of l.fn.regs.r; memory = g.M.Memory.words l.fn.memory }) ≡ Next (record { regs = view_of l.regs.r; memory = g.M.Memory.words l.memory }))
     × (g.M.Memory.denied l.memory ≡ g.M.Memory.denied l.fn.memory)
+    × (g.M.Memory.lender l.memory ≡ g.M.Memory.lender l.fn.memory)
+    × (g.M.Memory.aside l.memory ≡ g.M.Memory.aside l.fn.memory)
 
 abbrev pub decreases-loop-left : goal.decreases-loop-left
 decreases-loop-left g l = l.left
