@@ -110,3 +110,15 @@ accessed_in s offset k (Some n) = value_of offset k (object_of s n)
 
 unfoldable pub accessed : State → Location → Kind → Result Value ℕ
 accessed s l k = accessed_in s l.offset k l.object
+
+abbrev pub kind_in : Option Cell → Result Kind ℕ
+kind_in None = Err 5
+kind_in (Some c) = Ok c.kind
+
+abbrev pub kind_of_object : ℕ → Option Object → Result Kind ℕ
+kind_of_object offset None = Err 6
+kind_of_object offset (Some o) = kind_in (find_cell offset o.cells)
+
+-- the kind of the scalar at an offset of an object
+unfoldable pub kind_at : State → ℕ → ℕ → Result Kind ℕ
+kind_at s n offset = kind_of_object offset (object_of s n)

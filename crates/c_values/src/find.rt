@@ -74,3 +74,17 @@ pub fn accessed(state: &State, place: Location, kind: Kind) -> Result<Value, u8>
         Err(5)
     }
 }
+
+/// The kind of the scalar at an offset of an object, or the rule that an access would break.
+#[tactic(auto, unfolding(crate::specs::Objects::kind_at))]
+pub fn kind_at(state: &State, number: u64, offset: u32) -> Result<Kind, u8>
+    ensures { result ≡ spec.kind_at state.now number offset }
+{
+    let Some(object) = object_of(state, number) else {
+        return Err(6);
+    };
+    match object.cells.find(offset) {
+        Some(cell) => Ok(cell.kind),
+        None => Err(5),
+    }
+}

@@ -12,12 +12,12 @@ mod values;
 
 pub use cells::Cells;
 pub use comparisons::{compared, difference};
-pub use find::{accessed, object_of};
+pub use find::{accessed, kind_at, object_of};
 pub use operators::{as_type, binary, number, truth, unary, word_of};
 pub use pointers::{address, element, member_at, moved, pointed, pointer_sum, sum_of};
 pub use state::{Call, Object, Saved, State};
 pub use value::{Cell, Location, Value};
 pub use values::{
-    all_present, converted, fitted, integer, numbered, operated, operated_one, present, storable,
-    truth_of,
+    all_present, converted, fit, fitted, integer, numbered, operated, operated_one, present,
+    storable, truth_of, zero_of,
 };

@@ -69,6 +69,26 @@ pub fn fitted(kind: Kind, value: Value) -> Result<Value, u8>
     }
 }
 
+/// A value as a scalar of a kind has it, where that is lawful.
+pub fn fit(kind: Kind, value: Value) -> Value
+    ensures { result ≡ spec.fit kind value }
+{
+    match fitted(kind, value) {
+        Ok(fitting) => fitting,
+        Err(_rule) => value,
+    }
+}
+
+/// Zero in a scalar of a kind.
+pub fn zero_of(kind: Kind) -> Value
+    ensures { result ≡ spec.zero_of kind }
+{
+    match kind {
+        Kind::Pointer => Value::Null,
+        Kind::Char | Kind::Int | Kind::UInt => Value::Int(0),
+    }
+}
+
 /// What is stored where a value is stored at a place.
 pub fn storable(state: &State, place: Location, kind: Kind, value: Value) -> Result<Value, u8>
     ensures { result ≡ spec.if_accessed (objects.accessed state.now place kind) (spec.fitted kind value) }
