@@ -2,13 +2,18 @@
 #![tactic(auto)]
 
 mod expressions;
+mod extent;
 mod kinds;
 mod program;
+mod sizes;
 mod statements;
 mod types;
+mod whole_types;
 
 pub use expressions::{Expr, ExprKind, Place, PlaceKind};
 pub use kinds::{int_type_of, is_pointer, kind_of, target_of};
 pub use program::{Core, Function, Global, Initial, Typed};
+pub use sizes::{offset_of, size_of};
 pub use statements::{Group, Init, Stmt, StmtKind};
 pub use types::{Member, Slot, Struct, Ty};
+pub use whole_types::{copy_type, same_type};
