@@ -10,6 +10,10 @@ store_cost = 4
 abbrev pub put_cost : (ℕ → ℕ) → ℕ → ℕ
 put_cost m address = if in_segment (segment_of m) address then 1 else store_cost
 
+-- a store makes one entry, a word of the working segment none
+abbrev pub put_entries : (ℕ → ℕ) → ℕ → ℕ
+put_entries m address = if in_segment (segment_of m) address then 0 else 1
+
 -- one for each valid entry
 abbrev pub rollback_cost : (ℕ → ℕ) → ℕ
 rollback_cost m = count_of m

@@ -1,4 +1,5 @@
+pub mod Costs
 pub mod Map
 pub mod Recovered
+pub mod Ticks
 pub mod WellFormed
-pub mod Costs

@@ -1,7 +1,8 @@
 -- The machine to which the board's memory recovers after a power failure.
-use Rattle.std.specs.Prelude.{ℕ, ◌+◌, ◌-◌, ◌*◌, ◌/◌, ◌%◌, Bool, ◌&&◌, ◌||◌, nat_eq, nat_lt, if◌then◌else◌, List, [], ◌∷◌, slice_index, zero, suc}
+use Rattle.std.specs.Prelude.{ℕ, ◌+◌, ◌-◌, ◌/◌, ◌%◌, Bool, ◌&&◌, ◌||◌, nat_eq, nat_lt, if◌then◌else◌, List, [], ◌∷◌, slice_index, zero, suc}
+use Rattle.base16.specs.Board.{outputs_start, outputs_end, stack_start, segment_start, segment_top, data_start, data_end, code_start, code_end}
 use Rattle.base16.specs.Memory.{put}
-use Rattle.board_map.specs.Map.{undo_address, segment_start, current, count_of, between, in_segment}
+use Rattle.board_map.specs.Map.{registers_place, register_count, state_place, state_count, segment_place, block_log_start, block_address, undo_address, current, count_of, between, in_segment}
 
 -- Registers, state words and memory.
 pub record Machine : Type 0 where
@@ -17,15 +18,15 @@ pub record Machine : Type 0 where
 abbrev pub first : ℕ → (ℕ → ℕ) → (ℕ → ℕ)
 first n f = λ k. if nat_lt k n then f k else 0
 
--- A word lives at an even address of the block entries below this length, the outputs, the segments up to this one, the
--- data and the code.
-abbrev pub is_live : ℕ → ℕ → ℕ → Bool
-is_live segment length a = nat_eq (a % 2) 0 && (between 0x1800 (0x1800 + 4 * length) a || between 0x1A00 0x1C02 a
-    || between 0x2000 (segment_start segment + 256) a || between 0x4000 0x8000 a || between 0x8000 0xF000 a)
+-- Where a word lives, of a machine with these registers and state words: at an even address of the block entries below the
+-- block log's length, the outputs, the segments up to the working one, the data and the code.
+abbrev pub is_live : (ℕ → ℕ) → (ℕ → ℕ) → ℕ → Bool
+is_live registers state a = nat_eq (a % 2) 0 && (between block_log_start (block_address (state 2)) a || between outputs_start outputs_end a
+    || between stack_start (segment_top (state 0)) a || between data_start data_end a || between code_start code_end a)
 
--- the memory that lives, and 0 elsewhere
-abbrev pub live : ℕ → ℕ → (ℕ → ℕ) → (ℕ → ℕ)
-live segment length m = λ a. if is_live segment length a then m a else 0
+-- the machine with these registers and state words, over a memory of which it has the words that live, and 0 elsewhere
+abbrev pub machine : (ℕ → ℕ) → (ℕ → ℕ) → (ℕ → ℕ) → Machine
+machine registers state m = record { registers = registers; state = state; memory = λ a. if is_live registers state a then m a else 0 }
 
 -- the memory with the words of a segment given by a copy of them
 abbrev pub with_segment : ℕ → (ℕ → ℕ) → (ℕ → ℕ) → (ℕ → ℕ)
@@ -41,16 +42,23 @@ put_back address old (suc n) m = put_back address old n (put m (address n) (old 
 abbrev pub undone : (ℕ → ℕ) → (ℕ → ℕ)
 undone m = put_back (λ i. m (undo_address i)) (λ i. m (undo_address i + 2)) (count_of m) m
 
+-- the registers and the state words in a slot's words
+abbrev pub registers_in : (ℕ → ℕ) → (ℕ → ℕ)
+registers_in slot = first register_count (λ k. slot (registers_place + k))
+
+abbrev pub state_in : (ℕ → ℕ) → (ℕ → ℕ)
+state_in slot = first state_count (λ k. slot (state_place + k))
+
 -- the machine of a slot's words, over a memory
 abbrev pub of_slot : (ℕ → ℕ) → (ℕ → ℕ) → Machine
-of_slot slot m = record {
-  registers = first 16 (λ k. slot (128 + k));
-  state = first 9 (λ k. slot (144 + k));
-  memory = live (slot 144) (slot 146) (with_segment (slot 144) slot m);
-}
+of_slot slot m = machine (registers_in slot) (state_in slot) (with_segment (slot segment_place) slot m)
 
 abbrev pub recovered : (ℕ → ℕ) → Machine
 recovered m = of_slot (current m) (undone m)
+
+-- whether a word of the recovered machine lives at an address
+abbrev pub lives : (ℕ → ℕ) → ℕ → Bool
+lives m a = is_live (registers_in (current m)) (state_in (current m)) a
 
 -- the nine state words
 abbrev pub state_words : ℕ → ℕ → ℕ → ℕ → ℕ → ℕ → List ℕ
@@ -59,8 +67,4 @@ state_words segment block_open length marks commits clock =
 
 -- the machine of these registers and state words, over a memory whose working segment is up to date
 abbrev pub machine_of : List ℕ → List ℕ → (ℕ → ℕ) → Machine
-machine_of registers state m = record {
-  registers = first 16 (λ k. slice_index registers k);
-  state = first 9 (λ k. slice_index state k);
-  memory = live (slice_index state 0) (slice_index state 2) m;
-}
+machine_of registers state m = machine (first register_count (λ k. slice_index registers k)) (first state_count (λ k. slice_index state k)) m

@@ -60,30 +60,3 @@ pub const BLOCK_LOG: u16 = 0x1800;
 
 /// How many entries the block log has.
 pub const BLOCK_ENTRIES: u16 = 128;
-
-/// The outputs: a length word, and 256 words.
-pub const OUTPUTS: u16 = 0x1a00;
-
-/// The first byte address past the outputs.
-pub const OUTPUTS_END: u16 = 0x1c02;
-
-/// The first stack segment.
-pub const SEGMENTS: u16 = 0x2000;
-
-/// How many stack segments there are.
-pub const SEGMENT_COUNT: u16 = 32;
-
-/// The bytes of a stack segment.
-pub const SEGMENT_BYTES: u16 = 256;
-
-/// The globals, and behind them the stamps.
-pub const DATA: u16 = 0x4000;
-
-/// The first byte address past the data.
-pub const DATA_END: u16 = 0x8000;
-
-/// The code and the check tables.
-pub const CODE: u16 = 0x8000;
-
-/// The first byte address past the code.
-pub const CODE_END: u16 = 0xf000;

@@ -1,10 +1,9 @@
 ghost use Rattle.std.specs.Prelude.{◌≡◌, ◌+◌, ◌<◌, ◌↔◌, IsTrue};
 ghost use Rattle.board_map.specs.Map.{slot_address, count_address, undo_address, block_address, gate_of, IsLoggable};
 
-use crate::map::{
-    BLOCK_LOG, COUNTS, DATA_END, GATE, OUTPUTS, OUTPUTS_END, SEGMENTS, SLOT_STRIDE, SLOTS, UNDO_LOG,
-};
+use crate::map::{BLOCK_LOG, COUNTS, GATE, SLOT_STRIDE, SLOTS, UNDO_LOG};
 use base16::Words;
+use base16::board::{DATA_END, OUTPUTS, OUTPUTS_END, SEGMENTS};
 
 /// The word that names the current slot.
 pub fn gate<M: Words>(words: &M) -> u16

@@ -1,11 +1,12 @@
-ghost use Rattle.std.specs.Prelude.{◌≡◌, ◌+◌, ◌*◌, ◌<◌, OnOk, IfOk, OnErr};
+ghost use Rattle.std.specs.Prelude.{◌≡◌, ℕ, ◌+◌, ◌*◌, ◌<◌, OnOk, IfOk, OnErr};
 ghost use Rattle.base16.specs.Memory.{words_of};
 ghost use Rattle.board_map.specs.Costs.{boot_cost};
 ghost use Rattle.board_map.specs.Map.{count_of, slot_address};
 ghost use Rattle.board_map.specs.Recovered.{recovered};
 ghost use Rattle.board_map.specs.WellFormed.{IsWellFormed};
-ghost use Rattle.boot.specs.Restoring.{AreRegisters, IsWork, IsMemory, Copies};
+ghost use Rattle.boot.specs.Restoring.{AreRegisters, IsWork, IsMemory, IsUntouched, PutsBack, Copies};
 ghost use Rattle.fram.specs.Takes.{Takes};
+ghost use Rattle.world.specs.World.{IsLawful};
 
 use base16::{Regs, Words};
 use board_map::{
@@ -27,11 +28,14 @@ pub fn boot<W: World>(fram: &mut Fram, world: &mut W) -> Result<(Regs, Work), Of
     ensures work { IfOk result (λ r. IsWork r.1 (recovered (words_of fram.old.words))) }
     ensures since { IfOk result (λ r. r.1.since ≡ (W.state world.new).spent) }
     ensures memory { OnOk result (IsMemory (words_of fram.new.words) (recovered (words_of fram.old.words))) }
+    ensures rest { OnOk result (PutsBack (words_of fram.old.words) (words_of fram.new.words)) }
+    ensures others { (b : ℕ) → IsUntouched (words_of fram.old.words) b → words_of fram.new.words b ≡ words_of fram.old.words b }
     ensures no_entries { OnOk result (count_of (words_of fram.new.words) ≡ 0) }
     ensures entries { OnErr result (count_of (words_of fram.new.words) ≡ count_of (words_of fram.old.words)) }
     ensures recovered { recovered (words_of fram.new.words) ≡ recovered (words_of fram.old.words) }
     ensures well_formed { IsWellFormed (words_of fram.new.words) }
     ensures poked { fram.new.poked ≡ fram.old.poked }
+    ensures lawful { IsLawful (W.state world.new) }
 {
     rollback(fram, world)?;
     copy_segment(fram, world)?;
@@ -49,6 +53,7 @@ fn copy_segment<W: World>(fram: &mut Fram, world: &mut W) -> Result<(), Off>
     ensures copied { OnOk result (Copies 128 (words_of fram.old.words) (words_of fram.new.words)) }
     ensures kept { Copies 0 (words_of fram.old.words) (words_of fram.new.words) }
     ensures poked { fram.new.poked ≡ fram.old.poked }
+    ensures lawful { OnErr result (IsLawful (W.state world.new)) }
 {
     let slot = gate(fram);
     let start = SEGMENTS + SEGMENT_BYTES * slot_word(fram, slot, SEGMENT_AT);

@@ -4,6 +4,3 @@
 mod booting;
 
 pub use booting::boot;
-
-#[cfg(test)]
-mod tests;

@@ -1,11 +1,12 @@
 ghost use Rattle.std.specs.Prelude.{◌≡◌, ℕ, ◌+◌, ◌-◌, ◌<◌, ◌≤◌, ◌^◌, ◌%◌, ◌/◌, if◌then◌else◌, OnOk, OnErr, slice_index, length};
 ghost use Rattle.base16.specs.Memory.{words_of};
 ghost use Rattle.board_map.specs.Costs.{commit_cost};
-ghost use Rattle.board_map.specs.Map.{block_address, gate_of, count_of, IsLoggable};
+ghost use Rattle.board_map.specs.Map.{undo_log_start, block_address, gate_of, count_of, IsLoggable};
 ghost use Rattle.board_map.specs.Recovered.{recovered, machine_of, state_words};
 ghost use Rattle.board_map.specs.WellFormed.{IsWellFormed};
 ghost use Rattle.ckpt.specs.Slot.{slot_value, StaysElsewhere, Fills};
 ghost use Rattle.fram.specs.Takes.{Takes};
+ghost use Rattle.world.specs.World.{IsLawful};
 
 use base16::{Regs, Words};
 use board_map::{
@@ -37,12 +38,13 @@ pub fn commit<W: World>(
     ensures well_formed { IsWellFormed (words_of fram.new.words) }
     ensures no_entries { OnOk result (count_of (words_of fram.new.words) ≡ 0) }
     ensures entries { OnErr result (count_of (words_of fram.new.words) ≡ count_of (words_of fram.old.words)) }
-    ensures past { (b : ℕ) → 0x1400 ≤ b → words_of fram.new.words b ≡ words_of fram.old.words b }
+    ensures past { (b : ℕ) → undo_log_start ≤ b → words_of fram.new.words b ≡ words_of fram.old.words b }
     ensures elsewhere { StaysElsewhere (1 - gate_of (words_of fram.old.words)) (words_of fram.old.words) (words_of fram.new.words) }
     ensures work { OnOk result (work.new
         ≡ record work.old { commits = work.old.commits + 1; since = (W.state world.new).spent }) }
     ensures work_off { OnErr result (work.new ≡ work.old) }
     ensures poked { fram.new.poked ≡ fram.old.poked }
+    ensures lawful { IsLawful (W.state world.new) }
 {
     let number = work.commits + 1;
     let clock = world.clock();
@@ -103,9 +105,10 @@ fn switch<W: World>(
     ensures well_formed { IsWellFormed (words_of fram.new.words) }
     ensures no_entries { OnOk result (count_of (words_of fram.new.words) ≡ 0) }
     ensures entries { OnErr result (count_of (words_of fram.new.words) ≡ count_of (words_of fram.old.words)) }
-    ensures past { (b : ℕ) → 0x1400 ≤ b → words_of fram.new.words b ≡ words_of fram.old.words b }
+    ensures past { (b : ℕ) → undo_log_start ≤ b → words_of fram.new.words b ≡ words_of fram.old.words b }
     ensures elsewhere { StaysElsewhere (1 - gate_of (words_of fram.old.words)) (words_of fram.old.words) (words_of fram.new.words) }
     ensures poked { fram.new.poked ≡ fram.old.poked }
+    ensures lawful { IsLawful (W.state world.new) }
 {
     let other = 1 - gate(fram);
     fill(fram, world, other, regs, state)?;
@@ -128,6 +131,7 @@ fn fill<W: World>(
     ensures filled { OnOk result (Fills slot regs.now.r state.now 153 (words_of fram.old.words) (words_of fram.new.words)) }
     ensures kept { Fills slot regs.now.r state.now 0 (words_of fram.old.words) (words_of fram.new.words) }
     ensures poked { fram.new.poked ≡ fram.old.poked }
+    ensures lawful { OnErr result (IsLawful (W.state world.new)) }
 {
     for index in 0..SLOT_WORDS {
         let word = value(fram, regs, state, index);

@@ -5,6 +5,3 @@
 mod committing;
 
 pub use committing::commit;
-
-#[cfg(test)]
-mod tests;

@@ -1,1 +1,3 @@
-pub mod PutLemmas
+pub mod BlankLemmas
+pub mod Outcomes
+pub mod TickLemmas

@@ -1,3 +1,2 @@
-pub mod FewLines
 pub mod LogLemmas
 pub mod RollLemmas

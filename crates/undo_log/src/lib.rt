@@ -6,6 +6,3 @@ mod storing;
 
 pub use rolling::rollback;
 pub use storing::{put, room, store};
-
-#[cfg(test)]
-mod tests;

@@ -1,11 +1,12 @@
 ghost use Rattle.std.specs.Prelude.{◌≡◌, ℕ, ◌+◌, ◌<◌, ◌≤◌, OnOk, OnErr};
 ghost use Rattle.base16.specs.Memory.{words_of};
-ghost use Rattle.board_map.specs.Costs.{store_cost, put_cost, entries_within, put_entries_within};
+ghost use Rattle.board_map.specs.Costs.{store_cost, put_cost, put_entries, entries_within, put_entries_within};
 ghost use Rattle.board_map.specs.Map.{count_of, segment_of, IsLoggable, IsOutside};
 ghost use Rattle.board_map.specs.Recovered.{recovered};
 ghost use Rattle.board_map.specs.WellFormed.{IsWellFormed};
 ghost use Rattle.fram.specs.Takes.{Takes};
-ghost use Rattle.undo_log.specs.Log.{Keeps, Logs, Sets, Stays};
+ghost use Rattle.undo_log.specs.Log.{Enters, IsApart, Logs, Prepares, Sets, Stays};
+ghost use Rattle.world.specs.World.{IsLawful};
 
 use base16::Words;
 use board_map::{COUNTS, SEGMENT_BYTES, SEGMENTS, UNDO_ENTRIES, UNDO_LOG, Work, count, gate};
@@ -29,8 +30,9 @@ fn log<W: World>(fram: &mut Fram, world: &mut W, address: u16) -> Result<(), Off
     requires outside { IsOutside (segment_of (words_of fram.old.words)) address }
     ensures ticks { Takes 3 result (W.state world.old) (W.state world.new) }
     ensures logged { OnOk result (Logs address (words_of fram.old.words) (words_of fram.new.words)) }
-    ensures off { OnErr result (Keeps (words_of fram.old.words) (words_of fram.new.words)) }
+    ensures off { OnErr result (Prepares (words_of fram.old.words) (words_of fram.new.words)) }
     ensures poked { fram.new.poked ≡ fram.old.poked }
+    ensures lawful { IsLawful (W.state world.new) }
 {
     let slot = gate(fram);
     let entries = count(fram, slot);
@@ -55,7 +57,12 @@ pub fn store<W: World>(fram: &mut Fram, world: &mut W, address: u16, word: u16) 
     ensures well_formed { IsWellFormed (words_of fram.new.words) }
     ensures entries { count_of (words_of fram.new.words)
         ≡ count_of (words_of fram.old.words) + entries_within (W.state world.old).left }
+    ensures entry { OnOk result (Enters address (words_of fram.old.words) (words_of fram.new.words)) }
+    ensures count { OnOk result (count_of (words_of fram.new.words) ≡ count_of (words_of fram.old.words) + 1) }
+    ensures others { (b : ℕ) → IsApart (words_of fram.old.words) address b
+        → words_of fram.new.words b ≡ words_of fram.old.words b }
     ensures poked { fram.new.poked ≡ fram.old.poked }
+    ensures lawful { IsLawful (W.state world.new) }
 {
     log(fram, world, address)?;
     fram.write(world, address, word)
@@ -80,7 +87,14 @@ pub fn put<W: World>(
     ensures well_formed { IsWellFormed (words_of fram.new.words) }
     ensures entries { count_of (words_of fram.new.words)
         ≡ count_of (words_of fram.old.words) + put_entries_within (words_of fram.old.words) address (W.state world.old).left }
+    ensures entry { OnOk result (IsOutside (segment_of (words_of fram.old.words)) address
+        → Enters address (words_of fram.old.words) (words_of fram.new.words)) }
+    ensures count { OnOk result (count_of (words_of fram.new.words)
+        ≡ count_of (words_of fram.old.words) + put_entries (words_of fram.old.words) address) }
+    ensures others { (b : ℕ) → IsApart (words_of fram.old.words) address b
+        → words_of fram.new.words b ≡ words_of fram.old.words b }
     ensures poked { fram.new.poked ≡ fram.old.poked }
+    ensures lawful { IsLawful (W.state world.new) }
 {
     let start = SEGMENTS + SEGMENT_BYTES * work.segment;
     if address >= start && address < start + SEGMENT_BYTES {

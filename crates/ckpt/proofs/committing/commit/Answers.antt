@@ -2,7 +2,7 @@ use Rattle.std.proofs.Common.{◌+◌, ◌∙◌, ap}
 use Rattle.base16.specs.Memory.{words_of}
 use Rattle.board_map.specs.Recovered.{machine_of, state_words}
 use Rattle.std.specs.Prelude.{if◌then◌else◌}
-use Rattle.ckpt.proofs.SlotLemmas.{always_err}
+use Rattle.fram.proofs.Outcomes.{always_err}
 use Rattle.ckpt.proofs.committing.commit.Goals as goal
 
 pub returns-in_err-switch-clause-off : goal.returns-in_err-switch-clause-off

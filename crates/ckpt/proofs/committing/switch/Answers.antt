@@ -5,7 +5,8 @@ use Rattle.base16.specs.Memory.{words_of}
 use Rattle.board_map.specs.Recovered.{recovered}
 use Rattle.board_map.specs.WellFormed.{IsWellFormed}
 use Rattle.ckpt.specs.Slot.{Fills}
-use Rattle.ckpt.proofs.SlotLemmas.{always_err, either, count_step, gate_step}
+use Rattle.ckpt.proofs.SlotLemmas.{count_step, gate_step}
+use Rattle.fram.proofs.Outcomes.{always_err, either}
 use Rattle.ckpt.proofs.committing.switch.Goals as goal
 
 pub returns-in_err-fill-clause-off : goal.returns-in_err-fill-clause-off

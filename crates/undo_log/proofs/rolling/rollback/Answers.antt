@@ -4,7 +4,8 @@ use Rattle.std.proofs.lemmas.Result.{err_from_is_err_and}
 use Rattle.base16.specs.Memory.{words_of}
 use Rattle.board_map.specs.Map.{count_of}
 use Rattle.board_map.specs.Recovered.{recovered}
-use Rattle.undo_log.proofs.RollLemmas.{Back, back_step, spends_step, takes_err}
+use Rattle.fram.proofs.TickLemmas.{spends_step, takes_err}
+use Rattle.undo_log.proofs.RollLemmas.{Back, back_step}
 use Rattle.undo_log.proofs.rolling.rollback.Goals as goal
 
 pub loop-left-preserved : goal.loop-left-preserved
@@ -38,3 +39,6 @@ returns-clause-undone g c = λ b.
     let z : 0 ≡ c.loop-left.left = omega arith in
     let h : Back (words_of c.args.fram.now.words) 0 (words_of c.loop-left.fram.words) = subst (λ n. Back (words_of c.args.fram.now.words) n (words_of c.loop-left.fram.words)) (sym z) c.loop-left.invariant.back in
     h.back b
+
+pub returns-in_err-write-clause-others : goal.returns-in_err-write-clause-others
+returns-in_err-write-clause-others g c = λ b h. ap (λ ws. words_of ws b) c.in_err-write.ensures.kept ∙ c.loop-left.invariant.back.others b h

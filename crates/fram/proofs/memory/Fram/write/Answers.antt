@@ -1,8 +1,8 @@
 -- A word set in the list is a word set in the memory.
-use Rattle.std.proofs.Common.{◌≡◌, ◌/◌, ◌<◌, length, ◌∙◌, ap, arith}
+use Rattle.std.proofs.Common.{◌/◌, ◌<◌, length, ◌∙◌, ap, arith}
 use Rattle.base16.specs.Memory.{words_of, put}
 use Rattle.fram.specs.Contents.{Contents}
-use Rattle.fram.proofs.PutLemmas.{words_put}
+use Rattle.base16.proofs.Writes.{words_put}
 use Rattle.fram.proofs.memory.Fram.write.Goals as goal
 
 pub returns-clause-memory : goal.returns-clause-memory
