@@ -1,5 +1,5 @@
 -- Files and bytes in memory, with calls that are to fail.
-use Rattle.std.specs.Prelude.{ℕ, List, [], ◌∷◌, length, Option, Some, None, Bool, if◌then◌else◌, nat_lt, ◌==◌, Result, Ok, Err}
+use Rattle.std.specs.Prelude.{ℕ, List, [], ◌∷◌, ◌++◌, length, Option, Some, None, Bool, if◌then◌else◌, nat_lt, ◌==◌, Result, Ok, Err}
 use Rattle.std.specs.List.{list_any}
 use Rattle.std.specs.Str.{bytes_eq}
 use Rattle.edge.specs.Counts.{risen}
@@ -52,3 +52,15 @@ failed_call drive name = record (next_call drive) { faults = risen drive.faults;
 -- the store with a file set
 abbrev pub with_file : MemDrive → List ℕ → List ℕ → MemDrive
 with_file drive name bytes = record drive { files = record { name = name; bytes = bytes } ∷ drive.files }
+
+-- the sink once a call is numbered
+abbrev pub next_put : MemBytes → MemBytes
+next_put sink = record sink { calls = risen sink.calls }
+
+-- the sink after a call that failed
+abbrev pub failed_put : MemBytes → MemBytes
+failed_put sink = record (next_put sink) { faults = risen sink.faults }
+
+-- the sink with a piece added
+abbrev pub with_piece : MemBytes → List ℕ → MemBytes
+with_piece sink piece = record sink { bytes = sink.bytes ++ piece }

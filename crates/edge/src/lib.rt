@@ -12,6 +12,3 @@ pub use host::{HostFiles, StdSink};
 pub use mem_files::{MemFiles, StoredFile};
 pub use mem_sink::MemSink;
 pub use sink::{Sink, SinkErr};
-
-#[cfg(test)]
-mod tests;

@@ -31,7 +31,8 @@ impl Model for MemFiles {
 
     ghost Value = { MemDrive };
 
-    ghost view = { λ m. record { files = m.files.items; fails = m.fails.items; calls = m.calls; faults = m.faults; last = m.last } };
+    ghost view = { λ m.
+        record { files = m.files.items; fails = m.fails.items; calls = m.calls; faults = m.faults; last = m.last } };
 }
 
 impl MemFiles {
@@ -95,9 +96,26 @@ impl MemFiles {
         }
         None
     }
+}
 
-    /// The next numbered call, as a read.
-    fn read_next(&mut self, alloc: Global, name: &str, limit: u32) -> Result<Vec<u8>, FileErr>
+impl Files for MemFiles {
+    ghost contents = { λ m. Some (file_of m.files) };
+
+    ghost faults = { λ m. m.faults };
+
+    ghost last = { λ m. m.last };
+
+    fn faults(&self) -> u64 {
+        self.faults
+    }
+
+    fn last(&self) -> Option<&Name> {
+        self.last.as_ref()
+    }
+
+    /// Fails exactly where the number of this call is listed or there is no such file, want of memory aside, and counts
+    /// each call and each that failed.
+    fn read(&mut self, alloc: Global, name: &str, limit: u32) -> Result<Vec<u8>, FileErr>
         ensures answer { MatchResult result
             (λ v. read_answer self.old name.now limit ≡ Ok v.items)
             (λ e. (e ≡ FileErr.NoMemory) ⊎ (read_answer self.old name.now limit ≡ Err e)) }
@@ -122,8 +140,9 @@ impl MemFiles {
         Ok(Vec::from_slice(alloc, bytes)?)
     }
 
-    /// The next numbered call, as a write.
-    fn write_next(&mut self, alloc: Global, name: &str, bytes: &[u8]) -> Result<(), WriteErr>
+    /// Fails exactly where the number of this call is listed, want of memory aside, and counts each call and each that
+    /// failed. A call that failed changes no file.
+    fn write(&mut self, alloc: Global, name: &str, bytes: &[u8]) -> Result<(), WriteErr>
         ensures answer { MatchResult result
             (λ _. is_to_fail self.old.fails self.old.calls ≡ false)
             (λ e. (e ≡ WriteErr.NoMemory) ⊎ ((is_to_fail self.old.fails self.old.calls ≡ true) × (e ≡ WriteErr.Failed))) }
@@ -140,29 +159,5 @@ impl MemFiles {
         }
         self.place(alloc, name, bytes)?;
         Ok(())
-    }
-}
-
-impl Files for MemFiles {
-    ghost contents = { λ m. Some (file_of m.files) };
-
-    ghost faults = { λ m. m.faults };
-
-    ghost last = { λ m. m.last };
-
-    fn faults(&self) -> u64 {
-        self.faults
-    }
-
-    fn last(&self) -> Option<&Name> {
-        self.last.as_ref()
-    }
-
-    fn read(&mut self, alloc: Global, name: &str, limit: u32) -> Result<Vec<u8>, FileErr> {
-        self.read_next(alloc, name, limit)
-    }
-
-    fn write(&mut self, alloc: Global, name: &str, bytes: &[u8]) -> Result<(), WriteErr> {
-        self.write_next(alloc, name, bytes)
     }
 }

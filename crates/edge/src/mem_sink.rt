@@ -1,6 +1,6 @@
-ghost use Rattle.std.specs.Prelude.{◌≡◌, ◌≤◌, [], ◌++◌, Some, true, false, OnOk, IsErrOf, MatchResult, ◌⊎◌};
+ghost use Rattle.std.specs.Prelude.{◌≡◌, ◌≤◌, [], Some, true, false, OnOk, IsErrOf, MatchResult, ◌⊎◌};
 ghost use Rattle.edge.specs.Counts.{risen};
-ghost use Rattle.edge.specs.Memory.{is_to_fail};
+ghost use Rattle.edge.specs.Memory.{is_to_fail, next_put, failed_put, with_piece};
 
 use crate::sink::{Sink, SinkErr};
 use std::alloc::Global;
@@ -49,7 +49,7 @@ impl MemSink {
     /// Numbers a call, and says whether it is to fail.
     fn begin_call(&mut self) -> bool
         ensures answer { result ≡ is_to_fail self.old.fails self.old.calls }
-        ensures state { self.new ≡ record self.old { calls = risen self.old.calls } }
+        ensures state { self.new ≡ next_put self.old }
     {
         self.calls = self.calls.saturating_add(1);
         let number = self.calls;
@@ -63,27 +63,6 @@ impl MemSink {
     {
         self.faults = self.faults.saturating_add(1);
     }
-
-    /// The next numbered call.
-    fn put_next(&mut self, piece: &[u8]) -> Result<(), SinkErr>
-        ensures answer { MatchResult result
-            (λ _. is_to_fail self.old.fails self.old.calls ≡ false)
-            (λ e. (e ≡ SinkErr.NoMemory) ⊎ ((is_to_fail self.old.fails self.old.calls ≡ true) × (e ≡ SinkErr.Failed))) }
-        ensures ok { OnOk result (self.new ≡ record self.old { bytes = self.old.bytes ++ piece.now; calls = risen self.old.calls }) }
-        ensures failed { IsErrOf result SinkErr.Failed →
-            self.new ≡ record self.old { calls = risen self.old.calls; faults = risen self.old.faults } }
-        ensures no_memory { IsErrOf result SinkErr.NoMemory → self.new ≡ record self.old { calls = risen self.old.calls } }
-        ensures never_falls { self.old.faults ≤ self.new.faults }
-    {
-        if self.begin_call() {
-            self.fail();
-            return Err(SinkErr::Failed);
-        }
-        match self.bytes.extend_from_slice(piece) {
-            Ok(()) => Ok(()),
-            Err(_) => Err(SinkErr::NoMemory),
-        }
-    }
 }
 
 impl Sink for MemSink {
@@ -95,7 +74,24 @@ impl Sink for MemSink {
         self.faults
     }
 
-    fn put(&mut self, piece: &[u8]) -> Result<(), SinkErr> {
-        self.put_next(piece)
+    /// Fails exactly where the number of this call is listed, want of memory aside, and counts each call and each that
+    /// failed. A call that failed adds nothing.
+    fn put(&mut self, piece: &[u8]) -> Result<(), SinkErr>
+        ensures answer { MatchResult result
+            (λ _. is_to_fail self.old.fails self.old.calls ≡ false)
+            (λ e. (e ≡ SinkErr.NoMemory) ⊎ ((is_to_fail self.old.fails self.old.calls ≡ true) × (e ≡ SinkErr.Failed))) }
+        ensures ok { OnOk result (self.new ≡ with_piece (next_put self.old) piece.now) }
+        ensures failed { IsErrOf result SinkErr.Failed → self.new ≡ failed_put self.old }
+        ensures no_memory { IsErrOf result SinkErr.NoMemory → self.new ≡ next_put self.old }
+        ensures never_falls { self.old.faults ≤ self.new.faults }
+    {
+        if self.begin_call() {
+            self.fail();
+            return Err(SinkErr::Failed);
+        }
+        match self.bytes.extend_from_slice(piece) {
+            Ok(()) => Ok(()),
+            Err(_) => Err(SinkErr::NoMemory),
+        }
     }
 }

@@ -1,0 +1,5 @@
+//! Tests of the program and of its edge, from outside: expected values are worked out by hand.
+#![tactic(auto)]
+
+#[cfg(test)]
+mod outside;
