@@ -17,12 +17,13 @@ use Rattle.run430.specs.Code.{Agrees, Placed, Owns, words_of_code}
 use Rattle.run430.specs.Routine.{IsKept, RoutineReads, RoutineWrites}
 use Rattle.run430.proofs.Words.{Agrees-self}
 use Rattle.run430.proofs.Placing.{places, moved}
-use Rattle.run430.proofs.Rules.{two_sets, one_sets, jump}
+use Rattle.run430.proofs.Steady.{steady_sets, steady_one_sets, steady_jump}
 use Rattle.run430.proofs.Operands.{in_register, to_register}
 use Rattle.run430.proofs.FlagLemmas.{logic_carry, shift_carry, shift_zero}
 use Rattle.rt430.specs.declared.words.Helper.TheVariants.{Mul16}
-use Rattle.rt430.specs.Routines.{Returns, Computes}
-use Rattle.rt430.proofs.Stretch.{Went, then_went, AtReturn, owns, comes_back}
+use Rattle.rt430.specs.Routines.{kept_by, Returns, Computes}
+use Rattle.run430.proofs.Return.{kept_self}
+use Rattle.rt430.proofs.Stretch.{at_most, new_flags, Went, then_went, AtReturn, owns, comes_back}
 
 abbrev return_part : List Instr
 return_part = Two Mov false (Increment 1) (ToReg 0) ∷ []
@@ -64,7 +65,7 @@ record At (pc sp y b acc : ℕ) (q r : ℕ → ℕ) : Type 0 where
   left : r 12 ≡ y
   other : r 13 ≡ b % 65536
   total : r 14 ≡ acc % 65536
-  kept : IsKept q r
+  kept : IsKept (kept_by Mul16) q r
 
 -- and the carry has the bit that is looked at
 record AtBit (pc sp y b acc : ℕ) (one : Bool) (q r : ℕ → ℕ) : Type 0 where
@@ -104,7 +105,7 @@ module _ (denied : ℕ → Bool) (R W : ℕ → Type 0) (lo hi : ℕ) (own : Own
   g = Agrees-self m lo hi
 
   -- R14 and the carry are cleared, and the first bit is taken out
-  starts : (x y : ℕ) (r : ℕ → ℕ) → r 0 ≡ base → r 1 ≡ sp → r 12 ≡ x → r 13 ≡ y → y < 65536 → IsKept q r → Went denied R W m 2 r (AtBit (base + 4) sp (x / 2) y 0 (odd x) q)
+  starts : (x y : ℕ) (r : ℕ → ℕ) → r 0 ≡ base → r 1 ≡ sp → r 12 ≡ x → r 13 ≡ y → y < 65536 → IsKept (kept_by Mul16) q r → Went denied R W sp m 2 r (AtBit (base + 4) sp (x / 2) y 0 (odd x) q)
   starts x y r pc stack first second fits kept =
       let p = moved m lo hi _ _ code (sym pc) placed in
       let place : r 0 + 2 + 2 ≡ base + 4 = omega arith in
@@ -117,16 +118,16 @@ module _ (denied : ℕ → Bool) (R W : ℕ → Type 0) (lo hi : ℕ) (own : Own
         within = omega arith;
         end = _;
         runs =
-            two_sets denied R W m lo hi own 1 _ _ _ Xor false (Reg 14) (ToReg 14) _ _ _ g p.0 in_register to_register refl tt tt refl
-            (one_sets denied R W m lo hi own 0 _ _ _ Rrc false (Reg 12) _ _ g p.1.0 in_register refl tt refl refl);
+            steady_sets denied R W m lo hi own sp 1 _ _ _ Xor false (Reg 14) (ToReg 14) _ _ _ g p.0 in_register to_register refl tt tt refl (at_most stack)
+            (steady_one_sets denied R W m lo hi own sp 0 _ _ _ Rrc false (Reg 12) _ _ g p.1.0 in_register refl tt refl (at_most stack) refl);
         so = record {
-          at = record { place = place; stack = stack; left = half; other = other; total = none; kept = kept };
+          at = record { place = place; stack = stack; left = half; other = other; total = none; kept = (new_flags _ _ _ _ _ _ (new_flags _ _ _ _ _ _ kept.0), kept.1) };
           carry = shift_carry false _ (r 12) _ ∙ ap odd first;
         };
       }
 
   -- the bit is added where it is 1
-  adds : (one : Bool) (y b acc : ℕ) (r : ℕ → ℕ) → AtBit (base + 4) sp y b acc one q r → Went denied R W m 2 r (At (base + 8) sp y b (acc + bit one * b) q)
+  adds : (one : Bool) (y b acc : ℕ) (r : ℕ → ℕ) → AtBit (base + 4) sp y b acc one q r → Went denied R W sp m 2 r (At (base + 8) sp y b (acc + bit one * b) q)
   adds false y b acc r s =
       let a = s.at in let pc = a.place in let ft = a.total in
       let e : base + 2 + 2 ≡ r 0 = omega arith in
@@ -139,7 +140,7 @@ module _ (denied : ℕ → Bool) (R W : ℕ → Type 0) (lo hi : ℕ) (own : Own
         steps = 1;
         within = omega arith;
         end = _;
-        runs = jump denied R W m lo hi own 0 _ _ _ Nc (pos 1) true (base + 8) g p.0 (ap not s.carry) to below refl;
+        runs = steady_jump denied R W m lo hi own sp 0 _ _ _ Nc (pos 1) true (base + 8) g p.0 (ap not s.carry) to below (at_most a.stack) refl;
         so = record { place = refl; stack = a.stack; left = a.left; other = a.other; total = total; kept = a.kept };
       }
   adds true y b acc r s =
@@ -156,9 +157,9 @@ module _ (denied : ℕ → Bool) (R W : ℕ → Type 0) (lo hi : ℕ) (own : Own
         within = omega arith;
         end = _;
         runs =
-            jump denied R W m lo hi own 1 _ _ _ Nc (pos 1) false (r 0 + 4) g p.0 (ap not s.carry) to below
-            (two_sets denied R W m lo hi own 0 _ _ _ Add false (Reg 13) (ToReg 14) _ _ _ g p.1.0 in_register to_register refl tt tt refl refl);
-        so = record { place = place; stack = a.stack; left = a.left; other = a.other; total = total; kept = a.kept };
+            steady_jump denied R W m lo hi own sp 1 _ _ _ Nc (pos 1) false (r 0 + 4) g p.0 (ap not s.carry) to below (at_most a.stack)
+            (steady_sets denied R W m lo hi own sp 0 _ _ _ Add false (Reg 13) (ToReg 14) _ _ _ g p.1.0 in_register to_register refl tt tt refl (at_most a.stack) refl);
+        so = record { place = place; stack = a.stack; left = a.left; other = a.other; total = total; kept = (new_flags _ _ _ _ _ _ a.kept.0, a.kept.1) };
       }
 
   -- the next bit is taken out, and the zero flag says whether it was the last
@@ -166,7 +167,7 @@ module _ (denied : ℕ → Bool) (R W : ℕ → Type 0) (lo hi : ℕ) (own : Own
     bits : AtBit (base + 12) sp (y / 2) (2 * b) acc (odd y) q r
     none : zero_of (r 2) ≡ nat_eq (y / 2) 0
 
-  doubles : (y b acc : ℕ) (r : ℕ → ℕ) → y < 32768 → At (base + 8) sp y b acc q r → Went denied R W m 2 r (Doubled y b acc)
+  doubles : (y b acc : ℕ) (r : ℕ → ℕ) → y < 32768 → At (base + 8) sp y b acc q r → Went denied R W sp m 2 r (Doubled y b acc)
   doubles y b acc r l a =
       let pc = a.place in let fy = a.left in let fo = a.other in
       let e : base + 2 + 2 + 2 + 2 ≡ r 0 = omega arith in
@@ -180,11 +181,11 @@ module _ (denied : ℕ → Bool) (R W : ℕ → Type 0) (lo hi : ℕ) (own : Own
         within = omega arith;
         end = _;
         runs =
-            two_sets denied R W m lo hi own 1 _ _ _ Add false (Reg 13) (ToReg 13) _ _ _ g p.0 in_register to_register refl tt tt refl
-            (one_sets denied R W m lo hi own 0 _ _ _ Rra false (Reg 12) _ _ g p.1.0 in_register refl tt refl refl);
+            steady_sets denied R W m lo hi own sp 1 _ _ _ Add false (Reg 13) (ToReg 13) _ _ _ g p.0 in_register to_register refl tt tt refl (at_most a.stack)
+            (steady_one_sets denied R W m lo hi own sp 0 _ _ _ Rra false (Reg 12) _ _ g p.1.0 in_register refl tt refl (at_most a.stack) refl);
         so = record {
           bits = record {
-            at = record { place = place; stack = a.stack; left = half; other = other; total = a.total; kept = a.kept };
+            at = record { place = place; stack = a.stack; left = half; other = other; total = a.total; kept = (new_flags _ _ _ _ _ _ (new_flags _ _ _ _ _ _ a.kept.0), a.kept.1) };
             carry = shift_carry false _ (r 12) _ ∙ ap odd fy;
           };
           none = shift_zero false _ (r 12) _ ∙ ap (λ (k : ℕ). nat_eq k 0) half;
@@ -192,10 +193,10 @@ module _ (denied : ℕ → Bool) (R W : ℕ → Type 0) (lo hi : ℕ) (own : Own
       }
 
   -- one turn, up to the look whether bits are left
-  turn : (y b acc : ℕ) (one : Bool) (r : ℕ → ℕ) → y < 32768 → AtBit (base + 4) sp y b acc one q r → Went denied R W m 4 r (Doubled y b (acc + bit one * b))
-  turn y b acc one r l a = then_went denied R W m 2 2 r _ _ (adds one y b acc r a) (λ t u. doubles y b (acc + bit one * b) t l u)
+  turn : (y b acc : ℕ) (one : Bool) (r : ℕ → ℕ) → y < 32768 → AtBit (base + 4) sp y b acc one q r → Went denied R W sp m 4 r (Doubled y b (acc + bit one * b))
+  turn y b acc one r l a = then_went denied R W sp m 2 2 r _ _ (adds one y b acc r a) (λ t u. doubles y b (acc + bit one * b) t l u)
 
-  again : (y b acc : ℕ) (r : ℕ → ℕ) → y / 2 ≢ 0 → Doubled y b acc r → Went denied R W m 1 r (AtBit (base + 4) sp (y / 2) (2 * b) acc (odd y) q)
+  again : (y b acc : ℕ) (r : ℕ → ℕ) → y / 2 ≢ 0 → Doubled y b acc r → Went denied R W sp m 1 r (AtBit (base + 4) sp (y / 2) (2 * b) acc (odd y) q)
   again y b acc r some d =
       let a = d.bits.at in let pc = a.place in
       let e : base + 2 + 2 + 2 + 2 + 2 + 2 ≡ r 0 = omega arith in
@@ -207,11 +208,11 @@ module _ (denied : ℕ → Bool) (R W : ℕ → Type 0) (lo hi : ℕ) (own : Own
         steps = 1;
         within = omega arith;
         end = _;
-        runs = jump denied R W m lo hi own 0 _ _ _ Nz (negsuc 4) true (base + 4) g p.0 (ap not (d.none ∙ ne_eqb (y / 2) 0 some)) to below refl;
+        runs = steady_jump denied R W m lo hi own sp 0 _ _ _ Nz (negsuc 4) true (base + 4) g p.0 (ap not (d.none ∙ ne_eqb (y / 2) 0 some)) to below (at_most a.stack) refl;
         so = record { at = record { place = refl; stack = a.stack; left = a.left; other = a.other; total = a.total; kept = a.kept }; carry = d.bits.carry };
       }
 
-  past : (y b acc : ℕ) (r : ℕ → ℕ) → y / 2 ≡ 0 → Doubled y b acc r → Went denied R W m 1 r (AtBit (base + 14) sp 0 (2 * b) acc (odd y) q)
+  past : (y b acc : ℕ) (r : ℕ → ℕ) → y / 2 ≡ 0 → Doubled y b acc r → Went denied R W sp m 1 r (AtBit (base + 14) sp 0 (2 * b) acc (odd y) q)
   past y b acc r none d =
       let a = d.bits.at in let pc = a.place in
       let e : base + 2 + 2 + 2 + 2 + 2 + 2 ≡ r 0 = omega arith in
@@ -224,12 +225,12 @@ module _ (denied : ℕ → Bool) (R W : ℕ → Type 0) (lo hi : ℕ) (own : Own
         steps = 1;
         within = omega arith;
         end = _;
-        runs = jump denied R W m lo hi own 0 _ _ _ Nz (negsuc 4) false (base + 4) g p.0 (ap not (d.none ∙ eq-eqb (y / 2) 0 none)) to below refl;
+        runs = steady_jump denied R W m lo hi own sp 0 _ _ _ Nz (negsuc 4) false (base + 4) g p.0 (ap not (d.none ∙ eq-eqb (y / 2) 0 none)) to below (at_most a.stack) refl;
         so = record { at = record { place = place; stack = a.stack; left = a.left ∙ none; other = a.other; total = a.total; kept = a.kept }; carry = d.bits.carry };
       }
 
   -- the last bit, and the answer
-  ends : (one : Bool) (b acc : ℕ) (r : ℕ → ℕ) → AtBit (base + 14) sp 0 b acc one q r → Went denied R W m 3 r (AtReturn (base + 20) sp ((acc + bit one * b) % 65536) q)
+  ends : (one : Bool) (b acc : ℕ) (r : ℕ → ℕ) → AtBit (base + 14) sp 0 b acc one q r → Went denied R W sp m 3 r (AtReturn (base + 20) sp ((acc + bit one * b) % 65536) (kept_by Mul16) q)
   ends false b acc r s =
       let a = s.at in let pc = a.place in let ft = a.total in
       let e : base + 2 + 2 + 2 + 2 + 2 + 2 + 2 ≡ r 0 = omega arith in
@@ -246,8 +247,8 @@ module _ (denied : ℕ → Bool) (R W : ℕ → Type 0) (lo hi : ℕ) (own : Own
         within = omega arith;
         end = _;
         runs =
-            jump denied R W m lo hi own 1 _ _ _ Nc (pos 1) true (base + 18) g p.0 (ap not s.carry) to below
-            (two_sets denied R W m lo hi own 0 _ _ _ Mov false (Reg 14) (ToReg 12) _ _ _ g p2.0 in_register to_register refl tt tt refl refl);
+            steady_jump denied R W m lo hi own sp 1 _ _ _ Nc (pos 1) true (base + 18) g p.0 (ap not s.carry) to below (at_most a.stack)
+            (steady_sets denied R W m lo hi own sp 0 _ _ _ Mov false (Reg 14) (ToReg 12) _ _ _ g p2.0 in_register to_register refl tt tt refl (at_most a.stack) refl);
         so = record { place = place; stack = a.stack; answers = total; kept = a.kept };
       }
   ends true b acc r s =
@@ -264,37 +265,37 @@ module _ (denied : ℕ → Bool) (R W : ℕ → Type 0) (lo hi : ℕ) (own : Own
         within = omega arith;
         end = _;
         runs =
-            jump denied R W m lo hi own 2 _ _ _ Nc (pos 1) false (r 0 + 4) g p.0 (ap not s.carry) to below
-            (two_sets denied R W m lo hi own 1 _ _ _ Add false (Reg 13) (ToReg 14) _ _ _ g p.1.0 in_register to_register refl tt tt refl
-            (two_sets denied R W m lo hi own 0 _ _ _ Mov false (Reg 14) (ToReg 12) _ _ _ g p.1.1.0 in_register to_register refl tt tt refl refl));
-        so = record { place = place; stack = a.stack; answers = total; kept = a.kept };
+            steady_jump denied R W m lo hi own sp 2 _ _ _ Nc (pos 1) false (r 0 + 4) g p.0 (ap not s.carry) to below (at_most a.stack)
+            (steady_sets denied R W m lo hi own sp 1 _ _ _ Add false (Reg 13) (ToReg 14) _ _ _ g p.1.0 in_register to_register refl tt tt refl (at_most a.stack)
+            (steady_sets denied R W m lo hi own sp 0 _ _ _ Mov false (Reg 14) (ToReg 12) _ _ _ g p.1.1.0 in_register to_register refl tt tt refl (at_most a.stack) refl));
+        so = record { place = place; stack = a.stack; answers = total; kept = (new_flags _ _ _ _ _ _ a.kept.0, a.kept.1) };
       }
 
   -- all the turns, where no more than k + 1 bits are left
   abbrev Loops : ℕ → Type 0
-  Loops k = (y b acc : ℕ) (one : Bool) (r : ℕ → ℕ) → y < 2 ^ suc k → AtBit (base + 4) sp y b acc one q r → Went denied R W m (5 * suc k + 3) r (AtReturn (base + 20) sp ((acc + (bit one + 2 * y) * b) % 65536) q)
+  Loops k = (y b acc : ℕ) (one : Bool) (r : ℕ → ℕ) → y < 2 ^ suc k → AtBit (base + 4) sp y b acc one q r → Went denied R W sp m (5 * suc k + 3) r (AtReturn (base + 20) sp ((acc + (bit one + 2 * y) * b) % 65536) (kept_by Mul16) q)
 
-  stops : (k y b acc : ℕ) (one : Bool) (t : ℕ → ℕ) → y / 2 ≡ 0 → Doubled y b (acc + bit one * b) t → Went denied R W m 4 t (AtReturn (base + 20) sp ((acc + (bit one + 2 * y) * b) % 65536) q)
+  stops : (k y b acc : ℕ) (one : Bool) (t : ℕ → ℕ) → y / 2 ≡ 0 → Doubled y b (acc + bit one * b) t → Went denied R W sp m 4 t (AtReturn (base + 20) sp ((acc + (bit one + 2 * y) * b) % 65536) (kept_by Mul16) q)
   stops k y b acc one t none d =
-      let z = then_went denied R W m 1 3 t _ _ (past y b (acc + bit one * b) t none d) (λ u s. ends (odd y) (2 * b) (acc + bit one * b) u s) in
+      let z = then_went denied R W sp m 1 3 t _ _ (past y b (acc + bit one * b) t none d) (λ u s. ends (odd y) (2 * b) (acc + bit one * b) u s) in
       record { steps = z.steps; within = z.within; end = z.end; runs = z.runs; so = record { place = z.so.place; stack = z.so.stack; answers = z.so.answers ∙ ap (λ (n : ℕ). n % 65536) (last_turn y b acc (bit one) none); kept = z.so.kept } }
 
-  goes_on : (k y b acc : ℕ) (one : Bool) (t : ℕ → ℕ) → Loops k → y < 2 ^ suc (suc k) → y / 2 ≢ 0 → Doubled y b (acc + bit one * b) t → Went denied R W m (1 + (5 * suc k + 3)) t (AtReturn (base + 20) sp ((acc + (bit one + 2 * y) * b) % 65536) q)
+  goes_on : (k y b acc : ℕ) (one : Bool) (t : ℕ → ℕ) → Loops k → y < 2 ^ suc (suc k) → y / 2 ≢ 0 → Doubled y b (acc + bit one * b) t → Went denied R W sp m (1 + (5 * suc k + 3)) t (AtReturn (base + 20) sp ((acc + (bit one + 2 * y) * b) % 65536) (kept_by Mul16) q)
   goes_on k y b acc one t rest l some d =
-      let z = then_went denied R W m 1 (5 * suc k + 3) t _ _ (again y b (acc + bit one * b) t some d) (λ u s. rest (y / 2) (2 * b) (acc + bit one * b) (odd y) u (half_below y k l) s) in
+      let z = then_went denied R W sp m 1 (5 * suc k + 3) t _ _ (again y b (acc + bit one * b) t some d) (λ u s. rest (y / 2) (2 * b) (acc + bit one * b) (odd y) u (half_below y k l) s) in
       record { steps = z.steps; within = z.within; end = z.end; runs = z.runs; so = record { place = z.so.place; stack = z.so.stack; answers = z.so.answers ∙ ap (λ (n : ℕ). n % 65536) (one_turn y b acc (bit one)); kept = z.so.kept } }
 
   last : Loops 0
   last y b acc one r l a =
       let none : y / 2 ≡ 0 = omega arith in
-      then_went denied R W m 4 4 r _ _ (turn y b acc one r (omega arith) a) (λ t d. stops 0 y b acc one t none d)
+      then_went denied R W sp m 4 4 r _ _ (turn y b acc one r (omega arith) a) (λ t d. stops 0 y b acc one t none d)
 
   more : (k : ℕ) → suc k < 15 → Loops k → Loops (suc k)
   more k h rest y b acc one r l a =
-      let z = then_went denied R W m 4 (1 + (5 * suc k + 3)) r _ _ (turn y b acc one r (word_below y (suc k) h l) a) (λ t d. next t d (cases_eq (y / 2) 0)) in
+      let z = then_went denied R W sp m 4 (1 + (5 * suc k + 3)) r _ _ (turn y b acc one r (word_below y (suc k) h l) a) (λ t d. next t d (cases_eq (y / 2) 0)) in
       record { steps = z.steps; within = omega (arith, z.within); end = z.end; runs = z.runs; so = z.so }
     where
-      next : (t : ℕ → ℕ) → Doubled y b (acc + bit one * b) t → ((y / 2 ≡ 0) ⊎ (y / 2 ≡ 0 → ⊥)) → Went denied R W m (1 + (5 * suc k + 3)) t (AtReturn (base + 20) sp ((acc + (bit one + 2 * y) * b) % 65536) q)
+      next : (t : ℕ → ℕ) → Doubled y b (acc + bit one * b) t → ((y / 2 ≡ 0) ⊎ (y / 2 ≡ 0 → ⊥)) → Went denied R W sp m (1 + (5 * suc k + 3)) t (AtReturn (base + 20) sp ((acc + (bit one + 2 * y) * b) % 65536) (kept_by Mul16) q)
       next t d (inl none) = let z = stops k y b acc one t none d in record { steps = z.steps; within = omega (arith, z.within); end = z.end; runs = z.runs; so = z.so }
       next t d (inr some) = goes_on k y b acc one t rest l some d
 
@@ -302,10 +303,10 @@ module _ (denied : ℕ → Bool) (R W : ℕ → Type 0) (lo hi : ℕ) (own : Own
   loop zero h = last
   loop (suc k) h = more k h (loop k (omega arith))
 
-  whole : (x y : ℕ) (r : ℕ → ℕ) → r 0 ≡ base → r 1 ≡ sp → r 12 ≡ x → x < 65536 → r 13 ≡ y → y < 65536 → IsKept q r → Went denied R W m 80 r (AtReturn (base + 20) sp ((x * y) % 65536) q)
+  whole : (x y : ℕ) (r : ℕ → ℕ) → r 0 ≡ base → r 1 ≡ sp → r 12 ≡ x → x < 65536 → r 13 ≡ y → y < 65536 → IsKept (kept_by Mul16) q r → Went denied R W sp m 80 r (AtReturn (base + 20) sp ((x * y) % 65536) (kept_by Mul16) q)
   whole x y r pc stack first fits second fits2 kept =
       let half : x / 2 < 32768 = omega arith in
-      let z = then_went denied R W m 2 78 r _ _ (starts x y r pc stack first second fits2 kept) (λ t a. loop 14 (omega arith) (x / 2) y 0 (odd x) t half a) in
+      let z = then_went denied R W sp m 2 78 r _ _ (starts x y r pc stack first second fits2 kept) (λ t a. loop 14 (omega arith) (x / 2) y 0 (odd x) t half a) in
       let product : 0 + (bit (odd x) + 2 * (x / 2)) * y ≡ x * y = ap (λ (k : ℕ). 0 + k * y) (bit_odd x) ∙ (let e : 0 + x * y ≡ x * y = omega arith in e) in
       record { steps = z.steps; within = z.within; end = z.end; runs = z.runs; so = record { place = z.so.place; stack = z.so.stack; answers = z.so.answers ∙ ap (λ (k : ℕ). k % 65536) product; kept = z.so.kept } }
 
@@ -315,10 +316,10 @@ multiplies denied base x y s h d =
     let low = h.base_low in
     let top : base + 22 < 65280 = omega arith in
     let placed = places s.memory base (base + 22) top code base h.words refl h.base_even (omega arith) (omega arith) in
-    let w = whole denied (RoutineReads base 22 (s.regs 1)) (RoutineWrites (s.regs 1)) base (base + 22) (owns base 22 (s.regs 1)) base (s.regs 1) s.regs s.memory placed x y s.regs h.place refl h.first h.first_word h.second h.second_word (refl, refl, refl, refl) in
+    let w = whole denied (RoutineReads base 22 (s.regs 1)) (RoutineWrites (s.regs 1)) base (base + 22) (owns base 22 (s.regs 1)) base (s.regs 1) s.regs s.memory placed x y s.regs h.place refl h.first h.first_word h.second h.second_word (kept_self (kept_by Mul16) s.regs) in
     let e : base + 2 + 2 + 2 + 2 + 2 + 2 + 2 + 2 + 2 + 2 ≡ base + 20 = omega arith in
     let back = moved s.memory base (base + 22) _ _ return_part e placed.1.1.1.1.1.1.1.1.1.1 in
-    comes_back denied base 22 (base + 20) 80 ((x * y) % 65536) s h.stack_even (omega arith) back.0 w
+    comes_back denied base 22 (base + 20) 80 ((x * y) % 65536) (kept_by Mul16) s (λ r a b c k. k) h.stack_even (omega arith) back.0 w
 
-pub product_returns : Returns (words_of_code code)
+pub product_returns : Returns Mul16 (words_of_code code)
 product_returns denied base x y s h = ((x * y) % 65536, multiplies denied base x y s h tt)

@@ -15,7 +15,8 @@ use Rattle.run430.specs.Routine.{IsCall, RoutineReads, RoutineWrites}
 use Rattle.run430.proofs.Placing.{places, moved}
 use Rattle.rt430.specs.Operators.{signed_right_shifted, halved}
 use Rattle.rt430.specs.declared.words.Helper.TheVariants.{Shl, Shr, Sar}
-use Rattle.rt430.specs.Routines.{Answers, Returns, Computes}
+use Rattle.rt430.specs.Routines.{kept_by, Answers, Returns, Computes}
+use Rattle.run430.proofs.Return.{kept_self}
 use Rattle.rt430.proofs.Stretch.{owns, comes_back}
 use Rattle.std.proofs.Math.Nat.{div-div-eq-div-mul}
 use Rattle.std.proofs.lemmas.Nat.{mul-mod_first}
@@ -68,7 +69,7 @@ signed_right_times (suc k) x l = signed_right_times k (shifted false (is_negativ
 count_is : (y : ℕ) → y < 16 → y % 16 ≡ y
 count_is y l = omega arith
 
-left_goes : (denied : ℕ → Bool) (base x y : ℕ) (s : State) → IsCall denied (words_of_code left_code) base x y s → Answers denied (words_of_code left_code) base (times (λ x. (2 * x) % 65536) (y % 16) x) s
+left_goes : (denied : ℕ → Bool) (base x y : ℕ) (s : State) → IsCall denied (words_of_code left_code) base x y s → Answers Shl denied (words_of_code left_code) base (times (λ x. (2 * x) % 65536) (y % 16) x) s
 left_goes denied base x y s h =
     let high = h.base_high in
     let top : base + 14 < 65280 = omega arith in
@@ -81,16 +82,16 @@ left_goes denied base x y s h =
     let e10 : base + 6 + 2 + 2 + 2 ≡ base + 6 + 2 + 4 = omega arith in
     let back = moved s.memory base (base + 14) _ _ return_part e10 turn.1.1 in
     let one = one_left denied (RoutineReads base 14 (s.regs 1)) (RoutineWrites (s.regs 1)) base (base + 14) (owns base 14 (s.regs 1)) base (s.regs 1) s.regs s.memory shift.0 in
-    comes_back denied base 14 (base + 6 + 2 + 4) 62 _ s h.stack_even (omega arith) back.0
-    (whole denied (RoutineReads base 14 (s.regs 1)) (RoutineWrites (s.regs 1)) base (base + 14) (owns base 14 (s.regs 1)) base (s.regs 1) s.regs s.memory (λ x. (2 * x) % 65536) 2 2 3 p.0 p.1.0 turn.0 turn.1.0 refl refl (omega arith) one x y s.regs h.first_word h.place refl h.first h.second (refl, refl, refl, refl))
+    comes_back denied base 14 (base + 6 + 2 + 4) 62 _ (kept_by Shl) s (λ r a b c k. k) h.stack_even (omega arith) back.0
+    (whole denied (RoutineReads base 14 (s.regs 1)) (RoutineWrites (s.regs 1)) base (base + 14) (owns base 14 (s.regs 1)) base (s.regs 1) s.regs s.memory (λ x. (2 * x) % 65536) 2 2 3 p.0 p.1.0 turn.0 turn.1.0 refl refl (omega arith) one x y s.regs h.first_word h.place refl h.first h.second (kept_self (kept_by Shl) s.regs))
 
-pub left_returns : Returns (words_of_code left_code)
+pub left_returns : Returns Shl (words_of_code left_code)
 left_returns denied base x y s h = (times (λ x. (2 * x) % 65536) (y % 16) x, left_goes denied base x y s h)
 
 pub left_answers : Computes Shl (words_of_code left_code)
-left_answers denied base x y s h l = subst (λ (k : ℕ). Answers denied (words_of_code left_code) base k s) (ap (λ (k : ℕ). times (λ x. (2 * x) % 65536) k x) (count_is y l) ∙ left_times y x h.first_word) (left_goes denied base x y s h)
+left_answers denied base x y s h l = subst (λ (k : ℕ). Answers Shl denied (words_of_code left_code) base k s) (ap (λ (k : ℕ). times (λ x. (2 * x) % 65536) k x) (count_is y l) ∙ left_times y x h.first_word) (left_goes denied base x y s h)
 
-signed_right_goes : (denied : ℕ → Bool) (base x y : ℕ) (s : State) → IsCall denied (words_of_code signed_right_code) base x y s → Answers denied (words_of_code signed_right_code) base (times (λ x. shifted false (is_negative false x) x) (y % 16) x) s
+signed_right_goes : (denied : ℕ → Bool) (base x y : ℕ) (s : State) → IsCall denied (words_of_code signed_right_code) base x y s → Answers Sar denied (words_of_code signed_right_code) base (times (λ x. shifted false (is_negative false x) x) (y % 16) x) s
 signed_right_goes denied base x y s h =
     let high = h.base_high in
     let top : base + 14 < 65280 = omega arith in
@@ -102,16 +103,16 @@ signed_right_goes denied base x y s h =
     let e10 : base + 6 + 2 + 2 + 2 ≡ base + 6 + 2 + 4 = omega arith in
     let back = moved s.memory base (base + 14) _ _ return_part e10 turn.1.1 in
     let one = one_signed_right denied (RoutineReads base 14 (s.regs 1)) (RoutineWrites (s.regs 1)) base (base + 14) (owns base 14 (s.regs 1)) base (s.regs 1) s.regs s.memory shift.0 in
-    comes_back denied base 14 (base + 6 + 2 + 4) 62 _ s h.stack_even (omega arith) back.0
-    (whole denied (RoutineReads base 14 (s.regs 1)) (RoutineWrites (s.regs 1)) base (base + 14) (owns base 14 (s.regs 1)) base (s.regs 1) s.regs s.memory (λ x. shifted false (is_negative false x) x) 2 2 3 p.0 p.1.0 turn.0 turn.1.0 refl refl (omega arith) one x y s.regs h.first_word h.place refl h.first h.second (refl, refl, refl, refl))
+    comes_back denied base 14 (base + 6 + 2 + 4) 62 _ (kept_by Sar) s (λ r a b c k. k) h.stack_even (omega arith) back.0
+    (whole denied (RoutineReads base 14 (s.regs 1)) (RoutineWrites (s.regs 1)) base (base + 14) (owns base 14 (s.regs 1)) base (s.regs 1) s.regs s.memory (λ x. shifted false (is_negative false x) x) 2 2 3 p.0 p.1.0 turn.0 turn.1.0 refl refl (omega arith) one x y s.regs h.first_word h.place refl h.first h.second (kept_self (kept_by Shl) s.regs))
 
-pub signed_right_returns : Returns (words_of_code signed_right_code)
+pub signed_right_returns : Returns Sar (words_of_code signed_right_code)
 signed_right_returns denied base x y s h = (times (λ x. shifted false (is_negative false x) x) (y % 16) x, signed_right_goes denied base x y s h)
 
 pub signed_right_answers : Computes Sar (words_of_code signed_right_code)
-signed_right_answers denied base x y s h l = subst (λ (k : ℕ). Answers denied (words_of_code signed_right_code) base k s) (ap (λ (k : ℕ). times (λ x. shifted false (is_negative false x) x) k x) (count_is y l) ∙ signed_right_times y x h.first_word) (signed_right_goes denied base x y s h)
+signed_right_answers denied base x y s h l = subst (λ (k : ℕ). Answers Sar denied (words_of_code signed_right_code) base k s) (ap (λ (k : ℕ). times (λ x. shifted false (is_negative false x) x) k x) (count_is y l) ∙ signed_right_times y x h.first_word) (signed_right_goes denied base x y s h)
 
-right_goes : (denied : ℕ → Bool) (base x y : ℕ) (s : State) → IsCall denied (words_of_code right_code) base x y s → Answers denied (words_of_code right_code) base (times (λ x. x / 2) (y % 16) x) s
+right_goes : (denied : ℕ → Bool) (base x y : ℕ) (s : State) → IsCall denied (words_of_code right_code) base x y s → Answers Shr denied (words_of_code right_code) base (times (λ x. x / 2) (y % 16) x) s
 right_goes denied base x y s h =
     let high = h.base_high in
     let top : base + 16 < 65280 = omega arith in
@@ -125,11 +126,11 @@ right_goes denied base x y s h =
     let e10 : base + 6 + 4 + 2 + 2 ≡ base + 6 + 4 + 4 = omega arith in
     let back = moved s.memory base (base + 16) _ _ return_part e10 turn.1.1 in
     let one = one_right denied (RoutineReads base 16 (s.regs 1)) (RoutineWrites (s.regs 1)) base (base + 16) (owns base 16 (s.regs 1)) base (s.regs 1) s.regs s.memory shift.0 shift2.0 in
-    comes_back denied base 16 (base + 6 + 4 + 4) 62 _ s h.stack_even (omega arith) back.0
-    (whole denied (RoutineReads base 16 (s.regs 1)) (RoutineWrites (s.regs 1)) base (base + 16) (owns base 16 (s.regs 1)) base (s.regs 1) s.regs s.memory (λ x. x / 2) 4 3 4 p.0 p.1.0 turn.0 turn.1.0 refl refl (omega arith) one x y s.regs h.first_word h.place refl h.first h.second (refl, refl, refl, refl))
+    comes_back denied base 16 (base + 6 + 4 + 4) 62 _ (kept_by Shr) s (λ r a b c k. k) h.stack_even (omega arith) back.0
+    (whole denied (RoutineReads base 16 (s.regs 1)) (RoutineWrites (s.regs 1)) base (base + 16) (owns base 16 (s.regs 1)) base (s.regs 1) s.regs s.memory (λ x. x / 2) 4 3 4 p.0 p.1.0 turn.0 turn.1.0 refl refl (omega arith) one x y s.regs h.first_word h.place refl h.first h.second (kept_self (kept_by Shl) s.regs))
 
-pub right_returns : Returns (words_of_code right_code)
+pub right_returns : Returns Shr (words_of_code right_code)
 right_returns denied base x y s h = (times (λ x. x / 2) (y % 16) x, right_goes denied base x y s h)
 
 pub right_answers : Computes Shr (words_of_code right_code)
-right_answers denied base x y s h l = subst (λ (k : ℕ). Answers denied (words_of_code right_code) base k s) (ap (λ (k : ℕ). times (λ x. x / 2) k x) (count_is y l) ∙ right_times y x) (right_goes denied base x y s h)
+right_answers denied base x y s h l = subst (λ (k : ℕ). Answers Shr denied (words_of_code right_code) base k s) (ap (λ (k : ℕ). times (λ x. x / 2) k x) (count_is y l) ∙ right_times y x) (right_goes denied base x y s h)

@@ -23,10 +23,12 @@ pub enum Helper {
 }
 
 /// The words of an operator's routine, to be placed at any even address of the code range. It takes its operands in R12
-/// and R13 and answers in R12. Which answer a divisor of 0 or a count of 16 or more has is not told.
+/// and R13 and answers in R12, within 400 instructions. From the call to the return SP is never above the return word. R3 to
+/// R10 and all of SR but C, Z, N and V stay, and more with some of them; of the other registers nothing is told, nor which
+/// answer a divisor of 0 or a count of 16 or more has.
 pub fn routine(which: Helper) -> &'static [u16]
     ensures value { Computes which result.now }
-    ensures always { Returns result.now }
+    ensures always { Returns which result.now }
     ensures words { length result.now ≡ size which }
     ensures together { total_size ≤ 508 }
 {

@@ -1,9 +1,9 @@
 -- Stretches of a run, and what a routine does that is called with arguments in R12 and R13 and answers in R12.
-use Rattle.std.specs.Prelude.{◌≡◌, ◌⊎◌, ◌<◌, ◌≤◌, ℕ, ◌+◌, ◌*◌, ◌%◌, Bool, false, List, length}
+use Rattle.std.specs.Prelude.{◌≡◌, ◌⊎◌, ◌<◌, ◌≤◌, ℕ, ◌+◌, ◌*◌, ◌/◌, ◌%◌, Bool, false, List, [], ◌∷◌, length}
 use Rattle.isa430.specs.Table.{WordsAt}
 use Rattle.core430.specs.Instructions.{lowered}
 use Rattle.core430.specs.Step.{State, arrive, step}
-use Rattle.run430.specs.Run.{Runs, Touches}
+use Rattle.run430.specs.Run.{Runs, SteadyRuns, Touches}
 
 -- at most so many steps lead to a state that is such
 pub record Goes (denied : ℕ → Bool) (R W : ℕ → Type 0) (limit : ℕ) (s : State) (Q : State → Type 0) : Type 0 where
@@ -40,20 +40,31 @@ RoutineReads base size sp b = ((base ≤ b) × (b < base + size)) ⊎ ((b ≡ sp
 abbrev pub RoutineWrites : ℕ → ℕ → Type 0
 RoutineWrites sp b = (b ≡ lowered sp) ⊎ (b ≡ lowered sp + 1)
 
--- R4 to R7 are as they were
-abbrev pub IsKept : (ℕ → ℕ) → (ℕ → ℕ) → Type 0
-IsKept before r = (r 4 ≡ before 4) × (r 5 ≡ before 5) × (r 6 ≡ before 6) × (r 7 ≡ before 7)
+-- the bits of SR that are no flags: all but C, Z, N and V
+unfoldable pub without_flags : ℕ → ℕ
+without_flags status = status / 512 * 512 + status / 8 % 32 * 8
 
--- fewer steps than this, and then one that takes the return word to PC and leaves SP just past it. The answer is in R12, and R4 to R7 are as they were
-pub record ComesBack (denied : ℕ → Bool) (R W : ℕ → Type 0) (limit answer : ℕ) (s : State) : Type 0 where
+-- these registers are as they were
+abbrev pub Keeps : List ℕ → (ℕ → ℕ) → (ℕ → ℕ) → Type 0
+Keeps [] before r = Unit {0}
+Keeps (n ∷ ns) before r = (r n ≡ before n) × Keeps ns before r
+
+-- and so is SR but for its flags
+abbrev pub IsKept : List ℕ → (ℕ → ℕ) → (ℕ → ℕ) → Type 0
+IsKept ns before r = (without_flags (r 2) ≡ without_flags (before 2)) × Keeps ns before r
+
+-- fewer steps than this, after each of which SP is at the return word or below it, and then one that takes the return word
+-- to PC and leaves SP just past it. The answer is in R12. The registers of the list `same` and all of SR but its flags are
+-- as they were; of the others nothing is said
+pub record ComesBack (denied : ℕ → Bool) (R W : ℕ → Type 0) (limit answer : ℕ) (same : List ℕ) (s : State) : Type 0 where
   pub steps : ℕ
   pub within : steps < limit
   pub last : State
-  pub runs : Runs denied R W steps s last
+  pub runs : SteadyRuns denied R W (s.regs 1) steps s last
   pub end : State
   pub returns : step denied last ≡ arrive end.regs end.memory
   pub touches : Touches R W last
   pub back : end.regs 0 ≡ s.memory (s.regs 1)
   pub stack : end.regs 1 ≡ (s.regs 1 + 2) % 65536
   pub answers : end.regs 12 ≡ answer
-  pub kept : IsKept s.regs end.regs
+  pub kept : IsKept same s.regs end.regs
