@@ -19,5 +19,5 @@ pub use state::{Call, Object, Saved, State};
 pub use value::{Cell, Location, Value};
 pub use values::{
     all_present, converted, fit, fitted, integer, numbered, operated, operated_one, present,
-    storable, truth_of, zero_of,
+    right_type, storable, truth_of, zero_of,
 };

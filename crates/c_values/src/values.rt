@@ -99,7 +99,8 @@ pub fn storable(state: &State, place: Location, kind: Kind, value: Value) -> Res
     }
 }
 
-fn right_type(op: BinaryOp, at: IntType, own: IntType) -> IntType
+/// The type in which the right side of an operator is taken: a shift takes its own.
+pub fn right_type(op: BinaryOp, at: IntType, own: IntType) -> IntType
     ensures { result ≡ spec.right_type op at own }
 {
     match op {
