@@ -1,8 +1,8 @@
 -- Items one after another: where they stand, which labels they have, and which instructions they are.
-use Rattle.std.proofs.Common.{◌≡◌, ◌≢◌, ℕ, ◌+◌, ◌*◌, ◌<◌, ◌≤◌, refl, sym, ap, ◌∙◌, subst, arith, Bool, true, false, ◌&&◌, ◌⊎◌, inl, inr, List, [], ◌∷◌, ◌++◌, length, length-append, append_assoc, if◌then◌else◌}
+use Rattle.std.proofs.Common.{◌≡◌, ◌≢◌, ℕ, ◌+◌, ◌*◌, ◌<◌, ◌≤◌, refl, sym, ap, ◌∙◌, subst, arith, Bool, true, false, ◌&&◌, ◌⊎◌, inl, inr, List, [], ◌∷◌, ◌++◌, Some, length, length-append, append_assoc, if◌then◌else◌}
 use Rattle.std.specs.Prelude.{map, IsTrue, nat_le, nat_lt}
 use Rattle.std.specs.Option.{option_to_list}
-use Rattle.std.proofs.lemmas.Bool.{and_parts, and_from, ne_eqb}
+use Rattle.std.proofs.lemmas.Bool.{and_parts, and_from, eq-eqb, ne_eqb}
 use Rattle.std.proofs.lemmas.List.{append-nil}
 use Rattle.std.proofs.lemmas.Bool.Decides.{nat_tests}
 use Rattle.isa430.specs.declared.instr.Instr.{Instr}
@@ -84,6 +84,15 @@ only_middle l lo mid hi end start front middle rest h k a b =
 pub middle_place : (l lo mid hi end : ℕ) (front middle rest : List Item) → LabelsIn lo mid front → LabelsIn hi end rest → mid ≤ l → l < hi → place_of (front ++ (middle ++ rest)) l ≡ the_only (places_from l (0 + words_in front) middle)
 unfolding place_of
 middle_place l lo mid hi end front middle rest h k a b = ap the_only (only_middle l lo mid hi end 0 front middle rest h k a b)
+
+-- and where it stands by itself, the place of what follows it
+pub label_place : (l lo mid hi end : ℕ) (front back : List Item) → LabelsIn lo mid front → LabelsIn hi end back → mid ≤ l → l < hi →
+    place_of (front ++ (Label l ∷ back)) l ≡ Some (words_in front)
+label_place l lo mid hi end front back h k a b =
+    let z : 0 + words_in front ≡ words_in front = omega arith in
+    middle_place l lo mid hi end front (Label l ∷ []) back h k a b
+    ∙ ap (λ (t : Bool). the_only ((if t then (0 + words_in front) ∷ [] else []) ++ [])) (eq-eqb l l refl)
+    ∙ ap Some z
 
 -- ---- which instructions they are
 

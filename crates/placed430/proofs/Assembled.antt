@@ -1,9 +1,10 @@
 -- Parts of assembled items that stand as placed code, and as plain words.
-use Rattle.std.proofs.Common.{◌≡◌, ℕ, ◌+◌, ◌*◌, refl, sym, ap, ◌∙◌, subst, arith, List, [], ◌∷◌, ◌++◌, length}
+use Rattle.std.proofs.Common.{◌≡◌, ℕ, ◌+◌, ◌*◌, refl, sym, ap, ◌∙◌, subst, arith, List, [], ◌∷◌, ◌++◌, length, length-append}
 use Rattle.std.specs.Prelude.{map, IsTrue}
 use Rattle.std.proofs.lemmas.Bool.{and_parts, and_from}
 use Rattle.isa430.specs.declared.instr.Instr.{Instr}
 use Rattle.isa430.specs.Table.{code_of, valid, WordsAt}
+use Rattle.isa430.proofs.Formats.{code_size}
 use Rattle.run430.specs.Code.{Placed, words_of_code, are_valid as are_valid_code}
 use Rattle.run430.proofs.Placing.{places}
 use Rattle.asm430.specs.declared.item.Item.{Item}
@@ -11,8 +12,9 @@ use Rattle.asm430.specs.declared.item.Item.TheVariants.{Word}
 use Rattle.asm430.specs.Assembly.{words_in, StandFrom}
 use Rattle.asm430.specs.Instructions.{instrs_from, are_code}
 use Rattle.asm430.specs.Listing.{codes_of, are_valid}
-use Rattle.asm430.proofs.Laying.{stand_append, laid}
-use Rattle.placed430.specs.Assembled.{IsAssembled, address_of, end_of}
+use Rattle.asm430.proofs.Laying.{stand_append, instrs_long, laid}
+use Rattle.asm430.proofs.Labels.{words_append}
+use Rattle.placed430.specs.Assembled.{IsAssembled, address_of, end_of, size_of_code}
 
 -- both crates say in the same words what a list of instructions is
 same_words : (is : List Instr) → codes_of is ≡ words_of_code is
@@ -47,3 +49,20 @@ words_placed items words m h front plain back is =
     let z : 0 + words_in front ≡ words_in front = omega arith in
     let stand = (stand_append items m (0 + words_in front) (map Word plain) back (stand_append items m 0 front (map Word plain ++ back) (subst (StandFrom items m 0) is (h.stands m h.held))).1).0 in
     words_stand items m (words_in front) plain (subst (λ (k : ℕ). StandFrom items m k (map Word plain)) z stand)
+
+-- ---- one part behind the other
+
+pub address_append : (front part : List Item) → address_of (front ++ part) ≡ address_of front + 2 * words_in part
+address_append front part = let e = words_append front part in omega arith
+
+size_words : (is : List Instr) → size_of_code is ≡ 2 * length (codes_of is)
+size_words [] = refl
+size_words (i ∷ is) =
+    let more : size_of_code is ≡ 2 * length (codes_of is) = size_words is in
+    let one = code_size i in
+    let n = length-append (code_of i) (codes_of is) in
+    omega arith
+
+-- the instructions of a part reach to what stands behind it
+pub part_size : (items : List Item) (start : ℕ) (part : List Item) → IsTrue (are_code part) → size_of_code (instrs_from items start part) ≡ 2 * words_in part
+part_size items start part code = size_words (instrs_from items start part) ∙ ap (λ (n : ℕ). 2 * n) (instrs_long items start part code)

@@ -1,6 +1,7 @@
 -- Assembled items in memory, and the addresses of their parts.
-use Rattle.std.specs.Prelude.{◌≡◌, ℕ, ◌+◌, ◌*◌, List, [], IsTrue}
-use Rattle.isa430.specs.Table.{WordsAt}
+use Rattle.std.specs.Prelude.{◌≡◌, ℕ, ◌+◌, ◌*◌, List, [], ◌∷◌, IsTrue}
+use Rattle.isa430.specs.declared.instr.Instr.{Instr}
+use Rattle.isa430.specs.Table.{size_of, WordsAt}
 use Rattle.asm430.specs.declared.item.Item.{Item}
 use Rattle.asm430.specs.Assembly.{are_formed, words_in, faults, StandInMemory}
 
@@ -18,3 +19,8 @@ address_of front = 0x8000 + 2 * words_in front
 -- the byte address after the last word
 abbrev pub end_of : List Item → ℕ
 end_of items = 0x8000 + 2 * words_in items
+
+-- the bytes of a list of instructions
+abbrev pub size_of_code : List Instr → ℕ
+size_of_code [] = 0
+size_of_code (i ∷ is) = size_of i + size_of_code is

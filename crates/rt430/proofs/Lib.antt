@@ -6,3 +6,4 @@ pub mod Signs
 pub mod SignedQuotients
 pub mod Shifts
 pub mod ShiftRoutines
+pub mod Kept
