@@ -1,0 +1,9 @@
+pub mod ExprEquations
+pub mod StmtEquations
+pub mod CountingTree
+pub mod CountingStatements
+pub mod Enough
+pub mod GrowingTree
+pub mod GrowingStatements
+pub mod Stays
+pub mod Shown

@@ -1,0 +1,5 @@
+pub mod After
+pub mod Laws
+pub mod Meaning
+pub mod Stamps
+pub mod Statements
