@@ -18,18 +18,18 @@ wild_of-own service known r m segment block holds o is stack same own =
 
 -- ---- what is not refused
 
-not_some : {A : Type 0} {x : A} → Some x ≡ None → ⊥
+pub not_some : {A : Type 0} {x : A} → Some x ≡ None → ⊥
 not_some h = cc
 
-wild_where-first : (b : Bool) (a : ℕ) (rest : Option ℕ) → wild_where b a rest ≡ None → b ≡ false
+pub wild_where-first : (b : Bool) (a : ℕ) (rest : Option ℕ) → wild_where b a rest ≡ None → b ≡ false
 wild_where-first true a rest h = absurd (not_some h)
 wild_where-first false a rest h = refl
 
-wild_where-rest : (b : Bool) (a : ℕ) (rest : Option ℕ) → wild_where b a rest ≡ None → rest ≡ None
+pub wild_where-rest : (b : Bool) (a : ℕ) (rest : Option ℕ) → wild_where b a rest ≡ None → rest ≡ None
 wild_where-rest true a rest h = absurd (not_some h)
 wild_where-rest false a rest h = h
 
-not-false : (b : Bool) → not b ≡ false → b ≡ true
+pub not-false : (b : Bool) → not b ≡ false → b ≡ true
 not-false true h = refl
 not-false false h = cc
 

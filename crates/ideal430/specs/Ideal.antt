@@ -2,22 +2,17 @@
 use Rattle.std.specs.Prelude.{ℕ, zero, suc, ◌+◌, Bool, false, not, ◌&&◌, ◌||◌, nat_eq, nat_lt, if◌then◌else◌, List, [], ◌∷◌, ◌++◌, map}
 use Rattle.base16.specs.declared.reading.Reading.{Reading}
 use Rattle.base16.specs.declared.reading.Reading.TheVariants as reading
-use Rattle.base16.specs.declared.end.EndKind.{EndKind}
 use Rattle.base16.specs.declared.end.EndKind.TheVariants.{Done, Wild as WildAt}
 use Rattle.core430.specs.Registers.{set_reg}
 use Rattle.core430.specs.Step.{State, Outcome, Next, Service as Calls, Wild, step}
 use Rattle.ideal430.specs.Service.{Block, noted_of, BlockChange, Stays, Opens, Closes, Effect, Deed, Refuses, Does, deed_at, ask_at, stores_in, block_after}
 use Rattle.ideal430.specs.declared.service.Ask.{Ask}
 use Rattle.ideal430.specs.declared.service.Ask.TheVariants.{Nothing, Sensor, Clock}
+use Rattle.ideal430.specs.declared.state.IdealEnd.{IdealEnd}
+use Rattle.ideal430.specs.declared.state.IdealEnd.TheVariants.{Running, Ended, NeedsReading}
 use Rattle.ideal430.specs.Costs.{is_noting, effect_ticks, effect_entries, length_after, due_of}
 use Rattle.ideal430.specs.Settled.{Bytes, no_bytes, stores_bytes, settled_after, settled_again}
 use Rattle.core430.specs.Uses.{step_changes}
-
--- how a run stands
-pub data Status : Type 0 where
-  Running : Status
-  Ended : (kind : EndKind) → Status
-  NeedsReading : Status
 
 -- What the board counts: the ticks and the entries of the undo log since the last mark that was due, how many marks were
 -- due, the length of the block log, and the period.
@@ -38,7 +33,7 @@ pub record Ideal : Type 0 where
   pub marks : ℕ
   -- the readings that are left to take
   pub left : List Reading
-  pub status : Status
+  pub status : IdealEnd
   -- the bytes that count
   pub settled : Bytes
   -- the last stack pointer of each older segment
@@ -47,7 +42,7 @@ pub record Ideal : Type 0 where
   pub earlier : List Bytes
   pub meter : Meter
 
-abbrev pub stopped : Ideal → Status → Ideal
+abbrev pub stopped : Ideal → IdealEnd → Ideal
 stopped t status = record t { status = status }
 
 -- ---- an instruction
@@ -161,7 +156,7 @@ after t (Wild a) = stopped t (Ended (WildAt a))
 abbrev pub free : ℕ → Bool
 free a = false
 
-abbrev pub next_if : Status → Ideal → Ideal
+abbrev pub next_if : IdealEnd → Ideal → Ideal
 next_if Running t = after t (step free t.core)
 next_if (Ended kind) t = t
 next_if NeedsReading t = t

@@ -7,3 +7,4 @@ pub mod Uses
 pub mod Agreement
 pub mod Loaded
 pub mod Shown
+pub mod At

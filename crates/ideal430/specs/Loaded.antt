@@ -3,7 +3,8 @@ use Rattle.std.specs.Prelude.{ℕ, ◌-◌, ◌/◌, ◌≤◌, List, [], length
 use Rattle.base16.specs.Board.{data_start, data_end, code_start, code_end, first_stack_pointer}
 use Rattle.base16.specs.declared.reading.Reading.{Reading}
 use Rattle.ideal430.specs.Places.{is_between, is_even, is_fixed}
-use Rattle.ideal430.specs.Ideal.{Ideal, Running, run}
+use Rattle.ideal430.specs.Ideal.{Ideal, run}
+use Rattle.ideal430.specs.declared.state.IdealEnd.TheVariants.{Running}
 
 -- what the board can load: at most 14,336 words of code and tables, and 8,192 words of globals and stamps
 pub record IsLoadable (code globals : List ℕ) : Type 0 where

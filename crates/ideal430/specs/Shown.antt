@@ -1,5 +1,7 @@
 -- What the code's types stand for.
-use Rattle.std.specs.Prelude.{ℕ, true, List, [], ◌∷◌, length, Option, Some, None}
+use Rattle.std.specs.Prelude.{◌≡◌, ℕ, ◌+◌, ◌-◌, ◌*◌, ◌/◌, ◌%◌, ◌&&◌, true, List, [], ◌∷◌, length, slice_index, if◌then◌else◌, Option, Some, None}
+use Rattle.ideal430.specs.Places.{is_even, is_between}
+use Rattle.ideal430.specs.declared.service.Store.TheVariants.{Word, Byte, Link}
 use Rattle.core430.specs.Registers.{view_of}
 use Rattle.ideal430.specs.Service.{Block, Stays, Effect}
 use Rattle.ideal430.specs.declared.service.Store.{Store}
@@ -29,3 +31,17 @@ effect_shown d = record {
 abbrev pub block_words : Block → Option ℕ
 block_words None = None
 block_words (Some noted) = Some (length noted)
+
+-- a store of a word goes to an even address
+abbrev pub IsEven : Store → Type 0
+IsEven (Word a w) = a % 2 ≡ 0
+IsEven (Byte a v) = Unit {0}
+IsEven (Link a w) = a % 2 ≡ 0
+
+abbrev pub AreEven : List Store → Type 0
+AreEven [] = Unit {0}
+AreEven (s ∷ rest) = IsEven s × AreEven rest
+
+-- a memory with the first n words of a list set, from an address on
+abbrev pub filled : (start : ℕ) → List ℕ → (n : ℕ) → (ℕ → ℕ) → (ℕ → ℕ)
+filled start ws n m = λ a. if is_even a && is_between start (start + 2 * n) a then slice_index ws ((a - start) / 2) else m a

@@ -6,7 +6,9 @@ use Rattle.ideal430.specs.Places.{is_in_word}
 use Rattle.ideal430.specs.Service.{service_at, is_linked}
 use Rattle.ideal430.specs.Settled.{Bytes}
 use Rattle.core430.specs.Uses.{step_uses, IsWithin}
-use Rattle.ideal430.specs.Ideal.{Ideal, Status, Running, Ended, NeedsReading, moved, free, run}
+use Rattle.ideal430.specs.Ideal.{Ideal, moved, free, run}
+use Rattle.ideal430.specs.declared.state.IdealEnd.{IdealEnd}
+use Rattle.ideal430.specs.declared.state.IdealEnd.TheVariants.{Running, Ended, NeedsReading}
 use Rattle.ideal430.specs.declared.service.Service.{Service}
 use Rattle.ideal430.specs.declared.service.Service.TheVariants.{Leave, Emit, Open, Check, Close, Timely}
 
@@ -48,7 +50,7 @@ UsesAfter t (Next s) = Unit {0}
 UsesAfter t (Calls n s) = IsWithin (uses_at n s.regs s.memory t.segment) (moved t s).settled
 UsesAfter t (Wild a) = Unit {0}
 
-abbrev pub UsesIf : Status → Ideal → Type 0
+abbrev pub UsesIf : IdealEnd → Ideal → Type 0
 UsesIf Running t = IsWithin (step_uses t.core) t.settled × UsesAfter t (step free t.core)
 UsesIf (Ended kind) t = Unit {0}
 UsesIf NeedsReading t = Unit {0}

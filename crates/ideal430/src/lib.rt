@@ -4,7 +4,12 @@
 
 mod causes;
 mod deed;
+mod machine;
+mod memory;
 mod service;
+mod state;
 
 pub use deed::{Deed, Stores, deed_of, refusal};
+pub use machine::ideal_run;
 pub use service::{Ask, Service, Store, ask_of, service_at};
+pub use state::{IdealEnd, IdealState};
