@@ -1,5 +1,5 @@
 -- Extents follow layouts step by step.
-use Rattle.std.proofs.Common.{◌≡◌, ℕ, zero, suc, ◌+◌, ◌*◌, ◌<◌, ◌≤◌, min, Bool, true, false, ◌||◌, List, [], ◌∷◌, ◌++◌, map, take, length, length-append, length-take, drop, set, get_or, refl, inl, inr, ap, sym, ◌∙◌, arith, rules}
+use Rattle.std.proofs.Common.{append_assoc, ◌≡◌, ℕ, zero, suc, ◌+◌, ◌*◌, ◌<◌, ◌≤◌, min, Bool, true, false, ◌||◌, List, [], ◌∷◌, ◌++◌, map, take, length, length-append, length-take, drop, set, get_or, refl, inl, inr, ap, sym, ◌∙◌, arith, rules}
 use Rattle.std.proofs.lemmas.List.{take_more, take_more_set, take_all, map-append, map_more, get_or-take, get_or_past, length-map, take-append-le, take-append-drop, length-take-le, take_min, take-map}
 use Rattle.std.proofs.lemmas.List.{get_or-map as at_map}
 use Rattle.std.proofs.Math.ListN.{get_or-map}
@@ -248,3 +248,16 @@ pub offset_past : (known : List Layout) (ms : List Member) (n : ℕ) (sum : Exte
 offset_past known ms n sum h s =
     let long : length (member_layouts known ms) ≤ n = rw (length-map ms (λ (x : Member). layout_in known x.ty)) h in
     rw (s, get_or_past (member_layouts known ms) n nothing long, take_all n (member_layouts known ms) long) refl
+
+-- ---- objects side by side
+
+pub row_turn : (known : List Layout) (before ts : List Ty) (i : ℕ) (t : Ty) (sum part next : Extent) → i < length ts → t ≡ get_or ts i t
+    → sum ≡ told (with_members nothing (map (layout_in known) (before ++ take i ts))) → part ≡ told (layout_in known t)
+    → next.size ≡ capped (aligned part.even sum.size + part.size) → next.even ≡ (sum.even || part.even)
+    → next ≡ told (with_members nothing (map (layout_in known) (before ++ take (i + 1) ts)))
+row_turn known before ts i t sum part next h is s p g f =
+    let f_of : Ty → Layout = layout_in known in
+    let more : map f_of (before ++ take (i + 1) ts) ≡ map f_of (before ++ take i ts) ++ f_of t ∷ [] =
+    rw (take_more ts i t h, ← is, ← append_assoc before (take i ts) (t ∷ []), map-append f_of (before ++ take i ts) (t ∷ [])) refl in
+    rw (more, with_last nothing (map f_of (before ++ take i ts)) (f_of t))
+    (told_with (with_members nothing (map f_of (before ++ take i ts))) (f_of t) sum part next s p g f)

@@ -1,2 +1,5 @@
+mod Calls
 mod Extents
 pub mod Levels
+mod StatementSums
+mod Sums

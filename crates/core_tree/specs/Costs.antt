@@ -12,6 +12,7 @@ use Rattle.core_tree.specs.declared.expressions.PlaceKind.{PlaceKind, fold-Place
 use Rattle.core_tree.specs.declared.expressions.ExprKind.TheOpen.{ExprKind-F, PlaceKind-F}
 use Rattle.core_tree.specs.declared.statements.Stmt.{Stmt}
 use Rattle.core_tree.specs.declared.statements.StmtKind.{StmtKind, fold-StmtKind}
+use Rattle.core_tree.specs.declared.statements.Group.{Group, fold-Group}
 use Rattle.core_tree.specs.declared.statements.StmtKind.TheOpen.{StmtKind-F}
 use Rattle.core_tree.specs.declared.statements.Init.{Init}
 use Rattle.core_tree.specs.declared.program.Function.{Function}
@@ -62,6 +63,10 @@ abbrev pub store_row : Bool → ℕ
 store_row true = 28
 store_row false = 16
 
+-- an update with its store and its operator
+abbrev pub update_row : BinaryOp → Option IntType → Bool → ℕ
+update_row o at marked = 24 + store_row marked + operator_row o at
+
 abbrev pub expr_row : {K P E Q : Type 0} → ExprKind-F K P E Q → ℕ
 expr_row (ExprKind-F.Constant _) = constant_row
 expr_row (ExprKind-F.Read _) = 12
@@ -75,7 +80,7 @@ expr_row (ExprKind-F.And _ _) = 40
 expr_row (ExprKind-F.Or _ _) = 40
 expr_row (ExprKind-F.Conditional _ _ _) = 40
 expr_row (ExprKind-F.Assign _ _ marked) = store_row marked
-expr_row (ExprKind-F.Update o at _ _ _ marked) = 24 + store_row marked + operator_row o at
+expr_row (ExprKind-F.Update o at _ _ _ marked) = update_row o at marked
 expr_row (ExprKind-F.Address _) = 12
 expr_row (ExprKind-F.Call _ args) = 24 + 12 * length args
 expr_row (ExprKind-F.Sense _) = 20
@@ -171,6 +176,12 @@ module _ (w : ℕ → ℕ) where
 
   abbrev pub stmt_kind_rows : StmtKind → Bool → ℕ → ℕ
   stmt_kind_rows = fold-StmtKind (Bool → ℕ → ℕ) Grouped (Bool → ℕ)
+      (λ s inside node. w node * stmt_row inside s + total (stmt_row_parts s inside))
+      (λ g. record { labels = length g.labels; rows = λ inside. total (map (λ s. s inside) g.body) })
+      (λ s inside. s.kind inside s.node)
+
+  abbrev pub grouped : Group → Grouped
+  grouped = fold-Group (Bool → ℕ → ℕ) Grouped (Bool → ℕ)
       (λ s inside node. w node * stmt_row inside s + total (stmt_row_parts s inside))
       (λ g. record { labels = length g.labels; rows = λ inside. total (map (λ s. s inside) g.body) })
       (λ s inside. s.kind inside s.node)

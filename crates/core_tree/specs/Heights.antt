@@ -9,6 +9,7 @@ use Rattle.core_tree.specs.declared.expressions.PlaceKind.{PlaceKind, fold-Place
 use Rattle.core_tree.specs.declared.expressions.ExprKind.TheOpen.{ExprKind-F, PlaceKind-F}
 use Rattle.core_tree.specs.declared.statements.Stmt.{Stmt}
 use Rattle.core_tree.specs.declared.statements.StmtKind.{StmtKind, fold-StmtKind}
+use Rattle.core_tree.specs.declared.statements.Group.{Group, fold-Group}
 use Rattle.core_tree.specs.declared.statements.StmtKind.TheOpen.{StmtKind-F}
 use Rattle.core_tree.specs.declared.statements.Init.{Init}
 use Rattle.core_tree.specs.declared.program.Function.{Function}
@@ -96,6 +97,9 @@ stmt_step (StmtKind-F.Declare _ init) = tallest (map init_height init)
 
 abbrev pub stmt_kind_height : StmtKind → ℕ
 stmt_kind_height = fold-StmtKind ℕ ℕ ℕ stmt_step (λ g. tallest g.body) (λ s. s.kind)
+
+abbrev pub group_height : Group → ℕ
+group_height = fold-Group ℕ ℕ ℕ stmt_step (λ g. tallest g.body) (λ s. s.kind)
 
 abbrev pub stmt_height : Stmt → ℕ
 stmt_height s = stmt_kind_height s.kind

@@ -8,6 +8,7 @@ use Rattle.core_tree.specs.declared.expressions.PlaceKind.{PlaceKind, fold-Place
 use Rattle.core_tree.specs.declared.expressions.ExprKind.TheOpen.{ExprKind-F, PlaceKind-F}
 use Rattle.core_tree.specs.declared.statements.Stmt.{Stmt}
 use Rattle.core_tree.specs.declared.statements.StmtKind.{StmtKind, fold-StmtKind}
+use Rattle.core_tree.specs.declared.statements.Group.{Group, fold-Group}
 use Rattle.core_tree.specs.declared.statements.StmtKind.TheOpen.{StmtKind-F}
 use Rattle.core_tree.specs.declared.statements.Init.{Init}
 use Rattle.core_tree.specs.declared.program.Function.{Function}
@@ -86,6 +87,9 @@ stmt_parts (StmtKind-F.Declare _ init) = map init_nodes init
 
 abbrev pub stmt_kind_nodes : StmtKind → ℕ
 stmt_kind_nodes = fold-StmtKind ℕ ℕ ℕ (λ s. 1 + total (stmt_parts s)) (λ g. length g.labels + total g.body) (λ s. s.kind)
+
+abbrev pub group_nodes : Group → ℕ
+group_nodes = fold-Group ℕ ℕ ℕ (λ s. 1 + total (stmt_parts s)) (λ g. length g.labels + total g.body) (λ s. s.kind)
 
 abbrev pub stmt_nodes : Stmt → ℕ
 stmt_nodes s = stmt_kind_nodes s.kind

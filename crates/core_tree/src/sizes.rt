@@ -1,9 +1,10 @@
-ghost use Rattle.std.specs.Prelude.{◌≡◌, ◌<◌, ◌≤◌, length, min, get_or};
+ghost use Rattle.std.specs.Prelude.{◌≡◌, ◌<◌, ◌≤◌, ◌++◌, map, length, min, get_or};
 ghost use Rattle.core_tree.specs.Extents.{told, table};
-ghost use Rattle.core_tree.specs.Heights.{capped};
+ghost use Rattle.core_tree.specs.Heights.{capped, object_layouts};
 ghost use Rattle.core_tree.specs.Layout as spec;
 
 use crate::extent::{Extent, NOTHING};
+use crate::program::Function;
 use crate::types::{Member, Struct, Ty};
 use base16::IntType;
 
@@ -83,6 +84,58 @@ fn struct_extent(before: &[Struct], known: &[Extent], of: &Struct) -> Extent
     ensures { result ≡ told (spec.struct_layout (spec.layouts before.now) of.now) }
 {
     members_extent(before, known, of.members.as_slice()).closed()
+}
+
+/// The extent of objects side by side behind others, from a table of all structs.
+fn row_extent(
+    structs: &[Struct],
+    known: &[Extent],
+    _before: &[Ty],
+    sum: Extent,
+    types: &[Ty],
+) -> Extent
+    requires table { known.now ≡ table structs.now }
+    requires sum { sum ≡ told (spec.with_members spec.nothing (map (spec.layout structs.now) _before.now)) }
+    ensures { result ≡ told (spec.with_members spec.nothing (map (spec.layout structs.now) (_before.now ++ types.now))) }
+{
+    let mut sum = sum;
+    for ty in types {
+        sum = sum.with(extent_in(structs, known, ty));
+    }
+    sum
+}
+
+/// The extent of the objects of a function, with room for so many structs.
+fn objects_by<const N: usize>(structs: &[Struct], function: &Function) -> Extent
+    requires room { min (length structs.now) 65536 ≤ N }
+    requires small { N ≤ 65536 }
+    ensures { result ≡ told (spec.with_members spec.nothing (object_layouts structs.now function.now)) }
+{
+    let mut known = [NOTHING; N];
+    let count = structs.len().min(MOST_STRUCTS);
+    fill(structs, &mut known[..count]);
+    let params = function.params.as_slice();
+    let sum = row_extent(structs, &known[..count], &[], NOTHING, params);
+    row_extent(
+        structs,
+        &known[..count],
+        params,
+        sum,
+        function.locals.as_slice(),
+    )
+}
+
+/// The extent of the objects of a function: its parameters and then its locals.
+pub fn objects_extent(structs: &[Struct], function: &Function) -> Extent
+    ensures { result ≡ told (spec.with_members spec.nothing (object_layouts structs.now function.now)) }
+{
+    if structs.len() <= 32 {
+        objects_by::<32>(structs, function)
+    } else if structs.len() <= 1024 {
+        objects_by::<1024>(structs, function)
+    } else {
+        objects_by::<65_536>(structs, function)
+    }
 }
 
 /// Makes the table of structs.
