@@ -93,11 +93,11 @@ offset start (Some target) = distance start target
 abbrev pub load : ℕ → ℕ → Instr
 load value register = Two Mov false (Immediate value) (ToReg register)
 
--- the words of an item that stands at this place among all the items
 -- CALL #address
 abbrev pub call : ℕ → Instr
 call value = One Call false (Immediate value)
 
+-- the words of an item that stands at this place among all the items
 abbrev pub item_words : List Item → ℕ → Item → List ℕ
 item_words all start (Plain instr) = code_of instr
 item_words all start (Label label) = []

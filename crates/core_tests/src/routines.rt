@@ -12,8 +12,17 @@ const STACK: u16 = 0x3000;
 
 const BACK: u16 = 0x9000;
 
-/// R12 after a call of these words with two arguments, where it comes back within 400 steps; and 0xdead where not.
-fn answer(alloc: Global, words: &[u16], x: u16, y: u16) -> Result<u16, NoMemory> {
+/// What a call of a routine came to.
+#[derive(Clone, Copy)]
+struct Called {
+    /// R12 at the return, and 0xdead where it did not come back with what it keeps within 400 steps, or SP rose before.
+    answer: u16,
+    /// The steps up to the return.
+    steps: u16,
+}
+
+/// A call of these words with two arguments. R3 to R11, R14 and R15 hold their numbers, and SR bits 3 and 6.
+fn call(alloc: Global, words: &[u16], x: u16, y: u16) -> Result<Called, NoMemory> {
     let mut memory = PlainMemory::new(alloc)?;
     let mut address = START;
     for word in words {
@@ -23,17 +32,33 @@ fn answer(alloc: Global, words: &[u16], x: u16, y: u16) -> Result<u16, NoMemory>
     let _ = memory.put(STACK, BACK);
     let mut regs = Regs {
         r: [
-            START, STACK, 0, 0, 4, 5, 6, 7, 0, 0, 0, 0, x, y, 0xffff, 0xffff,
+            START, STACK, 0x48, 3, 4, 5, 6, 7, 8, 9, 10, 11, x, y, 14, 15,
         ],
     };
+    let mut steps = 0u16;
+    let mut steady = true;
     for _ in 0..400 {
         if regs.r[0] != BACK {
             let _ = run(1, &mut regs, &mut memory);
+            steps = steps.saturating_add(1);
+            steady = steady && (regs.r[0] == BACK || regs.r[1] <= STACK);
         }
     }
-    let kept = regs.r[4] == 4 && regs.r[5] == 5 && regs.r[6] == 6 && regs.r[7] == 7;
     let back = regs.r[0] == BACK && regs.r[1] == STACK + 2;
-    Ok(if kept && back { regs.r[12] } else { 0xdead })
+    let temporaries = regs.r[4] == 4 && regs.r[5] == 5 && regs.r[6] == 6 && regs.r[7] == 7;
+    let others = regs.r[3] == 3 && regs.r[8] == 8 && regs.r[9] == 9 && regs.r[10] == 10;
+    let kept = temporaries && others && regs.r[2] & 0xfef8 == 0x48;
+    let answer = if back && kept && steady {
+        regs.r[12]
+    } else {
+        0xdead
+    };
+    Ok(Called { answer, steps })
+}
+
+/// R12 after such a call.
+fn answer(alloc: Global, words: &[u16], x: u16, y: u16) -> Result<u16, NoMemory> {
+    Ok(call(alloc, words, x, y)?.answer)
 }
 
 /// Factors and product modulo 65536, worked by hand.
@@ -46,6 +71,17 @@ const PRODUCTS: [(u16, u16, u16); 8] = [
     (32768, 2, 0),
     (32769, 3, 32771),
     (12345, 6789, 55197),
+];
+
+/// Multipliers, and the steps that their products take, counted by hand along the routine: 2 to begin, 4 or 5 for each
+/// further bit, 3 or 4 to end.
+const PRODUCT_STEPS: [(u16, u16); 6] = [
+    (0, 9),
+    (1, 10),
+    (2, 10),
+    (3, 11),
+    (32768, 66),
+    (65535, 81),
 ];
 
 /// Number, divisor, quotient and remainder.
@@ -110,6 +146,18 @@ fn products_are_those_worked_by_hand(rt: HostRuntime) -> Result<(), Fail> {
             answer(rt.alloc(), routine(Helper::Mul16), x, y)?,
             product,
             "{x} * {y}"
+        );
+    }
+    Ok(())
+}
+
+#[test]
+fn a_product_ends_with_the_highest_bit_of_its_multiplier(rt: HostRuntime) -> Result<(), Fail> {
+    for (x, steps) in PRODUCT_STEPS {
+        assert_eq!(rt;
+            call(rt.alloc(), routine(Helper::Mul16), x, 54321)?.steps,
+            steps,
+            "{x} * 54321"
         );
     }
     Ok(())

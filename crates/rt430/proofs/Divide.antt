@@ -373,8 +373,8 @@ module _ (denied : ℕ → Bool) (R W : ℕ → Type 0) (lo hi : ℕ) (own : Own
   loop zero h = last_turn
   loop (suc k) h = one_turn k (omega arith) (loop k (omega arith))
 
-  zero_first : (x y : ℕ) → (0 * y + 0) * 2 ^ 16 + x ≡ x
-  zero_first x y = omega arith
+  zero_first : (n x y : ℕ) → n ≡ (0 * y + 0) * 2 ^ 16 + x → n ≡ x
+  zero_first n x y e = omega arith
 
   quotient_of : (k r x y : ℕ) → r < y → k * y + r ≡ x → k ≡ x / y
   quotient_of k r x y l e = sym (div-mul-add k y r l) ∙ ap (λ (i : ℕ). i / y) e
@@ -391,7 +391,7 @@ module _ (denied : ℕ → Bool) (R W : ℕ → Type 0) (lo hi : ℕ) (own : Own
       let r2 : ℕ → ℕ = set_reg (set_reg (set_reg (set_reg r 0 (r 0 + 2)) 14 0) 0 (r 0 + 2 + 4)) 15 16 in
       let a : At (base + 6) sp (x * 1 + 0) y 0 16 sign q r2 = record { place = place; stack = stack; number = number; divisor = second; rest = refl; left = refl; sign_is = s; kept = kept } in
       let w = loop 15 (omega arith) 1 x y 0 0 r2 refl (omega (arith, word)) (omega arith) pos1 fits a in
-      let same : w.so.0 * y + w.so.1 ≡ x = w.so.3 ∙ zero_first x y in
+      let same : w.so.0 * y + w.so.1 ≡ x = zero_first (w.so.0 * y + w.so.1) x y w.so.3 in
       let f = w.so.4 in
       record {
         steps = suc (suc w.steps);
