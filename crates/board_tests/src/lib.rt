@@ -2,4 +2,16 @@
 #![tactic(auto)]
 
 #[cfg(test)]
+mod boots;
+#[cfg(test)]
+mod checkpoints;
+#[cfg(test)]
+mod maps;
+#[cfg(test)]
+mod memory;
+#[cfg(test)]
+mod stores;
+#[cfg(test)]
+mod support;
+#[cfg(test)]
 mod traces;
