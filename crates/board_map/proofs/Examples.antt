@@ -8,7 +8,8 @@ use Rattle.board_map.specs.Recovered.{recovered}
 -- and 7 in the slot's copy.
 abbrev twice : ℕ → ℕ
 twice a =
-    if a == 0x1010 then 2 else if a == 0x1400 then 0x4000 else if a == 0x1402 then 1 else if a == 0x1404 then 0x4000 else if a == 0x1406 then 3
+    if a == 0x1010 then 2 else if a == 0x1400 then 0x4000 else if a == 0x1402 then 1 else if a == 0x1404 then 0x4000 else if a
+    == 0x1406 then 3
     else if a == 0x4000 then 5 else if a == 0x2000 then 9 else if a == 0x2100 then 8 else if a == 0x1100 then 7 else 0
 
 -- The first of two entries counts; putting back from the first to the last would give 3.

@@ -3,15 +3,22 @@ use Rattle.std.specs.Prelude.{◌≡◌, ◌⊎◌, ℕ, ◌-◌, ◌<◌, true}
 use Rattle.std.proofs.Common.{suc, refl, sym, ◌∙◌, subst, inl, inr, arith}
 use Rattle.base16.proofs.Writes.{put-same}
 use Rattle.base16.specs.Memory.{put}
-use Rattle.board_map.specs.Map.{gate_address, slot_words, count_address, slot_address, gate_of, count_of, segment_of, in_segment}
+use Rattle.board_map.specs.Map.{gate_address, slot_words, count_address, slot_address, gate_of, count_of, segment_of}
+use Rattle.board_map.specs.Map.{in_segment}
 use Rattle.board_map.specs.Recovered.{recovered}
-use Rattle.board_map.specs.Ticks.{TickKind, plain_word, entry_word, count_raised, logged_word, slot_word, gate_word, boot_word, count_cleared, dead_word, IsLogged, IsRaised, IsSwitched, IsCleared, MayWrite, machine_after, gate_after, entries_after, Keeps}
+use Rattle.board_map.specs.Ticks.{TickKind, plain_word, entry_word, count_raised, logged_word, slot_word, gate_word}
+use Rattle.board_map.specs.Ticks.{boot_word, count_cleared, dead_word, IsLogged, IsRaised, IsSwitched, IsCleared}
+use Rattle.board_map.specs.Ticks.{MayWrite, machine_after, gate_after, entries_after, Keeps}
 use Rattle.board_map.specs.WellFormed.{IsWellFormed}
 use Rattle.board_map.proofs.Undoing.{recovered-outside}
 use Rattle.board_map.proofs.Writes.{IsQuiet, gate-kept, count-kept, quiet-well_formed, quiet-recovered}
-use Rattle.board_map.proofs.WriteKinds.{in_segment-range, quiet-plain, quiet-logged, quiet-entry, quiet-slot, quiet-count, quiet-dead, raised-well_formed, raised-recovered, raised-count, cleared-well_formed, cleared-recovered, cleared-count, gate-well_formed, gate-recovered, gate-count}
+use Rattle.board_map.proofs.WriteKinds.{in_segment-range, quiet-plain, quiet-logged, quiet-entry, quiet-slot}
+use Rattle.board_map.proofs.WriteKinds.{quiet-count, quiet-dead, raised-well_formed, raised-recovered, raised-count}
+use Rattle.board_map.proofs.WriteKinds.{cleared-well_formed, cleared-recovered, cleared-count, gate-well_formed}
+use Rattle.board_map.proofs.WriteKinds.{gate-recovered, gate-count}
 
-quiet-keeps : (kind : TickKind) (m : ℕ → ℕ) (a v : ℕ) → machine_after kind m ≡ recovered m → gate_after kind m ≡ gate_of m → entries_after kind m ≡ count_of m → IsWellFormed m → IsQuiet m a → Keeps kind m (put m a v)
+quiet-keeps : (kind : TickKind) (m : ℕ → ℕ) (a v : ℕ) → machine_after kind m ≡ recovered m → gate_after kind m ≡ gate_of m
+    → entries_after kind m ≡ count_of m → IsWellFormed m → IsQuiet m a → Keeps kind m (put m a v)
 quiet-keeps kind m a v e g n f q = record {
   well_formed = quiet-well_formed m a v f q;
   recovered = quiet-recovered m a v q ∙ sym e;
@@ -25,7 +32,8 @@ quiet-inside m a f h = let r = in_segment-range (segment_of m) a h in quiet-plai
 quiet-entered : (m : ℕ → ℕ) (a : ℕ) → IsWellFormed m → IsLogged m a → IsQuiet m a
 quiet-entered m a f h = subst (IsQuiet m) h.2 (quiet-logged m h.0 f h.1)
 
-quiet-other : (m : ℕ → ℕ) (a : ℕ) → IsWellFormed m → ((i : ℕ) × (i < slot_words) × (a ≡ slot_address (1 - gate_of m) i)) ⊎ (a ≡ count_address (1 - gate_of m)) → IsQuiet m a
+quiet-other : (m : ℕ → ℕ) (a : ℕ) → IsWellFormed m → ((i : ℕ) × (i < slot_words) × (a ≡ slot_address (1 - gate_of m)
+    i)) ⊎ (a ≡ count_address (1 - gate_of m)) → IsQuiet m a
 quiet-other m a f h = elim h [
   | inl word ↦ subst (IsQuiet m) (sym word.2) (quiet-slot m word.0 f word.1)
   | inr count ↦ subst (IsQuiet m) (sym count) (quiet-count m f)

@@ -1,8 +1,11 @@
 -- The machine to which the board's memory recovers after a power failure.
-use Rattle.std.specs.Prelude.{ℕ, ◌+◌, ◌-◌, ◌/◌, ◌%◌, Bool, ◌&&◌, ◌||◌, nat_eq, nat_lt, if◌then◌else◌, List, [], ◌∷◌, slice_index, zero, suc}
-use Rattle.base16.specs.Board.{outputs_start, outputs_end, stack_start, segment_start, segment_top, data_start, data_end, code_start, code_end}
+use Rattle.std.specs.Prelude.{ℕ, ◌+◌, ◌-◌, ◌/◌, ◌%◌, Bool, ◌&&◌, ◌||◌, nat_eq, nat_lt, if◌then◌else◌, List, [], ◌∷◌}
+use Rattle.std.specs.Prelude.{slice_index, zero, suc}
+use Rattle.base16.specs.Board.{outputs_start, outputs_end, stack_start, segment_start, segment_top, data_start}
+use Rattle.base16.specs.Board.{data_end, code_start, code_end}
 use Rattle.base16.specs.Memory.{put}
-use Rattle.board_map.specs.Map.{registers_place, register_count, state_place, state_count, segment_place, block_log_start, block_address, undo_address, current, count_of, between, in_segment}
+use Rattle.board_map.specs.Map.{registers_place, register_count, state_place, state_count, segment_place}
+use Rattle.board_map.specs.Map.{block_log_start, block_address, undo_address, current, count_of, between, in_segment}
 
 -- Registers, state words and memory.
 pub record Machine : Type 0 where
@@ -21,12 +24,17 @@ first n f = λ k. if nat_lt k n then f k else 0
 -- Where a word lives, of a machine with these registers and state words: at an even address of the block entries below the
 -- block log's length, the outputs, the segments up to the working one, the data and the code.
 abbrev pub is_live : (ℕ → ℕ) → (ℕ → ℕ) → ℕ → Bool
-is_live registers state a = nat_eq (a % 2) 0 && (between block_log_start (block_address (state 2)) a || between outputs_start outputs_end a
+is_live registers state a = nat_eq (a % 2) 0
+    && (between block_log_start (block_address (state 2)) a || between outputs_start outputs_end a
     || between stack_start (segment_top (state 0)) a || between data_start data_end a || between code_start code_end a)
 
 -- the machine with these registers and state words, over a memory of which it has the words that live, and 0 elsewhere
 abbrev pub machine : (ℕ → ℕ) → (ℕ → ℕ) → (ℕ → ℕ) → Machine
-machine registers state m = record { registers = registers; state = state; memory = λ a. if is_live registers state a then m a else 0 }
+machine registers state m = record {
+  registers = registers;
+  state = state;
+  memory = λ a. if is_live registers state a then m a else 0;
+}
 
 -- the memory with the words of a segment given by a copy of them
 abbrev pub with_segment : ℕ → (ℕ → ℕ) → (ℕ → ℕ) → (ℕ → ℕ)
@@ -63,8 +71,10 @@ lives m a = is_live (registers_in (current m)) (state_in (current m)) a
 -- the nine state words
 abbrev pub state_words : ℕ → ℕ → ℕ → ℕ → ℕ → ℕ → List ℕ
 state_words segment block_open length marks commits clock =
-    segment ∷ block_open ∷ length ∷ (marks % 65536) ∷ (marks / 65536) ∷ (commits % 65536) ∷ (commits / 65536) ∷ (clock % 65536) ∷ (clock / 65536) ∷ []
+    segment ∷ block_open ∷ length ∷ (marks % 65536) ∷ (marks / 65536) ∷ (commits % 65536) ∷ (commits / 65536)
+    ∷ (clock % 65536) ∷ (clock / 65536) ∷ []
 
 -- the machine of these registers and state words, over a memory whose working segment is up to date
 abbrev pub machine_of : List ℕ → List ℕ → (ℕ → ℕ) → Machine
-machine_of registers state m = machine (first register_count (λ k. slice_index registers k)) (first state_count (λ k. slice_index state k)) m
+machine_of registers state m =
+    machine (first register_count (λ k. slice_index registers k)) (first state_count (λ k. slice_index state k)) m

@@ -2,7 +2,9 @@
 -- write, to which machine the memory recovers then, which slot is the current one then, and how many entries of the undo
 -- log are valid. A tick that writes nothing is that of an instruction.
 use Rattle.std.specs.Prelude.{◌≡◌, ◌≢◌, ◌⊎◌, ℕ, ◌+◌, ◌-◌, ◌<◌, ◌≤◌, true, false}
-use Rattle.board_map.specs.Map.{gate_address, count_address, slot_address, undo_address, undo_entries, slot_words, block_log_start, gate_of, slot_of, count_of, segment_of, in_segment, IsLoggable, IsOutside}
+use Rattle.board_map.specs.Map.{gate_address, count_address, slot_address, undo_address, undo_entries, slot_words}
+use Rattle.board_map.specs.Map.{block_log_start, gate_of, slot_of, count_of, segment_of, in_segment, IsLoggable}
+use Rattle.board_map.specs.Map.{IsOutside}
 use Rattle.board_map.specs.Recovered.{Machine, lives, of_slot, recovered}
 use Rattle.board_map.specs.WellFormed.{IsState, IsWellFormed}
 
@@ -61,7 +63,8 @@ MayWrite plain_word m address word = in_segment (segment_of m) address ≡ true
 MayWrite entry_word m address word = (undo_address (count_of m) ≤ address) × (address < block_log_start)
 MayWrite count_raised m address word = IsRaised m address word
 MayWrite logged_word m address word = IsLogged m address
-MayWrite slot_word m address word = ((i : ℕ) × (i < slot_words) × (address ≡ slot_address (1 - gate_of m) i)) ⊎ (address ≡ count_address (1 - gate_of m))
+MayWrite slot_word m address word =
+    ((i : ℕ) × (i < slot_words) × (address ≡ slot_address (1 - gate_of m) i)) ⊎ (address ≡ count_address (1 - gate_of m))
 MayWrite gate_word m address word = IsSwitched m address word
 MayWrite boot_word m address word = IsLogged m address ⊎ (in_segment (segment_of m) address ≡ true)
 MayWrite count_cleared m address word = IsCleared m address word

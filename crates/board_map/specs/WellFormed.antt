@@ -1,7 +1,9 @@
 -- What a memory has to be for a boot.
 use Rattle.std.specs.Prelude.{ℕ, ◌<◌, ◌≤◌, ◌≡◌}
 use Rattle.base16.specs.Board.{segment_count}
-use Rattle.board_map.specs.Map.{magic_address, magic_word, version_address, layout_version, undo_entries, block_entries, segment_place, block_open_place, block_length_place, undo_address, block_address, gate_of, count_of, segment_of, open_of, length_of, IsLoggable, IsOutside}
+use Rattle.board_map.specs.Map.{magic_address, magic_word, version_address, layout_version, undo_entries, block_entries}
+use Rattle.board_map.specs.Map.{segment_place, block_open_place, block_length_place, undo_address, block_address}
+use Rattle.board_map.specs.Map.{gate_of, count_of, segment_of, open_of, length_of, IsLoggable, IsOutside}
 
 -- What the first three state words of a slot have to be, of a memory with this block log.
 pub record IsState (slot m : ℕ → ℕ) : Type 0 where

@@ -12,7 +12,15 @@ use Rattle.board_map.proofs.Writes.{same_or_not}
 use Rattle.boot.specs.Restoring.{Copies}
 
 pub copy_start : (m : ℕ → ℕ) → IsWellFormed m → Copies 0 m m
-copy_start m f = record { well_formed = f; recovered = refl; gate = refl; count = refl; others = λ b h. refl; copied = λ i h. absurd (omega arith) }
+copy_start m f = record {
+  well_formed = f;
+  recovered = refl;
+  gate = refl;
+  count = refl;
+  others = λ b h. refl;
+  copied =
+      λ i h. absurd (omega arith);
+}
 
 pub copy_none : (m w u : ℕ → ℕ) (n : ℕ) → Copies n m w → u ≡ w → Copies 0 m u
 copy_none m w u n h e = subst (Copies 0 m) (sym e) (record {
@@ -30,14 +38,17 @@ outside_or s i b l h e = elim h [ inl x ↦ omega arith | inr x ↦ omega arith 
 low_outside : (s b : ℕ) → b < stack_start → IsOutside s b
 low_outside s b h = inl (omega arith)
 
-pub copy_step : (m w u : ℕ → ℕ) (n slot segment x : ℕ) → IsWellFormed m → Copies n m w → n < 128 → slot ≡ gate_of m → segment ≡ m (slot_address slot 144) → x ≡ w (slot_address slot n) → u ≡ put w (segment_start segment + 2 * n) x → Copies (n + 1) m u
+pub copy_step : (m w u : ℕ → ℕ) (n slot segment x : ℕ) → IsWellFormed m → Copies n m w → n < 128 → slot ≡ gate_of m
+    → segment ≡ m (slot_address slot 144) → x ≡ w (slot_address slot n) → u ≡ put w (segment_start segment + 2 * n) x
+    → Copies (n + 1) m u
 copy_step m w u n slot segment x f h within here works value was =
     let s : segment_of w ≡ segment_of m = ap (λ r. r.state 0) h.recovered in
     let g : gate_of m < 2 = f.gate in
     let a = segment_start (segment_of m) + 2 * n in
     let inside = in_segment-true (segment_of w) a (omega arith) (omega arith) in
     let t : Keeps boot_word w (put w a x) = tick_keeps boot_word w a x h.well_formed (inr inside) in
-    let v : x ≡ current m n = value ∙ ap (λ k. w (slot_address k n)) here ∙ h.others (slot_address (gate_of m) n) (low_outside (segment_of m) (slot_address (gate_of m) n) (omega arith)) in
+    let v : x ≡ current m n = value ∙ ap (λ k. w (slot_address k n)) here
+    ∙ h.others (slot_address (gate_of m) n) (low_outside (segment_of m) (slot_address (gate_of m) n) (omega arith)) in
     let e : segment ≡ segment_of m = works ∙ ap (λ k. m (slot_address k 144)) here in
     let p : u ≡ put w a x = was ∙ ap (λ k. put w (segment_start k + 2 * n) x) e in
     subst (Copies (n + 1) m) (sym p) (record {

@@ -3,7 +3,8 @@ use Rattle.std.proofs.Common.{◌≡◌, ℕ, ◌+◌, ◌-◌, ◌/◌, ◌≤�
 use Rattle.base16.proofs.Writes.{put-other}
 use Rattle.base16.specs.Board.{segment_start}
 use Rattle.base16.specs.Memory.{put}
-use Rattle.board_map.specs.Map.{gate_address, count_address, block_log_start, undo_address, gate_of, count_of, segment_of, current, in_segment, IsOutside}
+use Rattle.board_map.specs.Map.{gate_address, count_address, block_log_start, undo_address, gate_of, count_of}
+use Rattle.board_map.specs.Map.{segment_of, current, in_segment, IsOutside}
 use Rattle.board_map.specs.Recovered.{registers_in, state_in, recovered, undone, lives, is_live}
 use Rattle.board_map.specs.Ticks.{count_cleared, IsUnlogged, Keeps}
 use Rattle.board_map.specs.WellFormed.{IsWellFormed}
@@ -65,10 +66,13 @@ pub restored : (m w v u : ℕ → ℕ) (slot : ℕ) → Stands m w v → slot �
 restored m w v u slot h here was =
     let f = h.copies.well_formed in
     let same : recovered v ≡ recovered m = h.copies.recovered ∙ h.recovered in
-    let back : (b : ℕ) → lives v b ≡ true → in_segment (segment_of v) b ≡ false → v b ≡ (recovered v).memory b = λ b alive outside.
+    let back : (b : ℕ) → lives v b ≡ true → in_segment (segment_of v) b ≡ false
+    → v b ≡ (recovered v).memory b = λ b alive outside.
     stands_at m w v b h (sym (same_live m v b same) ∙ alive) ∙ sym (ap (λ r. r.memory b) same) in
-    let t : Keeps count_cleared v (put v (count_address (gate_of v)) 0) = tick_keeps count_cleared v (count_address (gate_of v)) 0 f (record { place = refl; value = refl; back = back }) in
-    let other : (b : ℕ) → IsOutside (segment_of m) b → (b ≡ count_address (gate_of m) → ⊥) → put v (count_address (gate_of v)) 0 b ≡ w b = λ b far count.
+    let t : Keeps count_cleared v (put v (count_address (gate_of v)) 0) =
+    tick_keeps count_cleared v (count_address (gate_of v)) 0 f (record { place = refl; value = refl; back = back }) in
+    let other : (b : ℕ) → IsOutside (segment_of m) b → (b ≡ count_address (gate_of m) → ⊥)
+    → put v (count_address (gate_of v)) 0 b ≡ w b = λ b far count.
     put-other v (count_address (gate_of v)) 0 b (λ e. count (e ∙ ap count_address (h.copies.gate ∙ h.gate)))
     ∙ h.copies.others b (subst (λ s. IsOutside s b) (sym (same_segment m w h.recovered)) far) in
     subst (Restored m) (sym (was ∙ ap (λ k. put v (count_address k) 0) here)) (record {
@@ -83,8 +87,10 @@ restored m w v u slot h here was =
     })
 
 -- a boot that power cuts in the copy, or after it
-pub cut_short : (m w v : ℕ → ℕ) (b : ℕ) → recovered w ≡ recovered m → ((b : ℕ) → IsUnlogged m b → w b ≡ m b) → Copies 0 w v → IsUntouched m b → v b ≡ m b
-cut_short m w v b same others kept l = kept.others b (subst (λ s. IsOutside s b) (sym (same_segment m w same)) l.segment) ∙ others b l.entry
+pub cut_short : (m w v : ℕ → ℕ) (b : ℕ) → recovered w ≡ recovered m → ((b : ℕ) → IsUnlogged m b → w b ≡ m b) → Copies 0 w v
+    → IsUntouched m b → v b ≡ m b
+cut_short m w v b same others kept l = kept.others b (subst (λ s. IsOutside s b) (sym (same_segment m w same)) l.segment)
+    ∙ others b l.entry
 
 pub spends_all : {n : ℕ} {a b c d : WorldState} → Spends n a b → Spends 128 b c → Spends 1 c d → Spends (n + 129) a d
 spends_all {n} {a} {b} {c} {d} p q r =

@@ -1,7 +1,8 @@
 -- What a commit writes into the slot that is not the current one.
 use Rattle.std.specs.Prelude.{◌≡◌, ◌≢◌, ℕ, ◌+◌, ◌-◌, ◌*◌, ◌<◌, if◌then◌else◌, nat_lt, List, slice_index}
 use Rattle.base16.specs.Board.{segment_start}
-use Rattle.board_map.specs.Map.{gate_address, slot_words, registers_place, state_place, slot_address, count_address, gate_of, count_of}
+use Rattle.board_map.specs.Map.{gate_address, slot_words, registers_place, state_place, slot_address, count_address}
+use Rattle.board_map.specs.Map.{gate_of, count_of}
 use Rattle.board_map.specs.Recovered.{recovered}
 use Rattle.board_map.specs.WellFormed.{IsWellFormed}
 
@@ -10,7 +11,8 @@ use Rattle.board_map.specs.WellFormed.{IsWellFormed}
 abbrev pub slot_value : List ℕ → List ℕ → (ℕ → ℕ) → ℕ → ℕ
 slot_value registers state m index =
     if nat_lt index registers_place then m (segment_start (slice_index state 0) + 2 * index)
-    else if nat_lt index state_place then slice_index registers (index - registers_place) else slice_index state (index - state_place)
+    else if nat_lt index state_place then slice_index registers (index - registers_place)
+    else slice_index state (index - state_place)
 
 -- the address is none of those that a commit into a slot writes: the slot's words, its count, the gate
 pub record IsElsewhere (slot address : ℕ) : Type 0 where

@@ -39,7 +39,8 @@ pub fn commit<W: World>(
     ensures no_entries { OnOk result (count_of (words_of fram.new.words) ≡ 0) }
     ensures entries { OnErr result (count_of (words_of fram.new.words) ≡ count_of (words_of fram.old.words)) }
     ensures past { (b : ℕ) → undo_log_start ≤ b → words_of fram.new.words b ≡ words_of fram.old.words b }
-    ensures elsewhere { StaysElsewhere (1 - gate_of (words_of fram.old.words)) (words_of fram.old.words) (words_of fram.new.words) }
+    ensures elsewhere { StaysElsewhere (1 - gate_of (words_of fram.old.words)) (words_of fram.old.words)
+        (words_of fram.new.words) }
     ensures work { OnOk result (work.new
         ≡ record work.old { commits = work.old.commits + 1; since = (W.state world.new).spent }) }
     ensures work_off { OnErr result (work.new ≡ work.old) }
@@ -106,7 +107,8 @@ fn switch<W: World>(
     ensures no_entries { OnOk result (count_of (words_of fram.new.words) ≡ 0) }
     ensures entries { OnErr result (count_of (words_of fram.new.words) ≡ count_of (words_of fram.old.words)) }
     ensures past { (b : ℕ) → undo_log_start ≤ b → words_of fram.new.words b ≡ words_of fram.old.words b }
-    ensures elsewhere { StaysElsewhere (1 - gate_of (words_of fram.old.words)) (words_of fram.old.words) (words_of fram.new.words) }
+    ensures elsewhere { StaysElsewhere (1 - gate_of (words_of fram.old.words)) (words_of fram.old.words)
+        (words_of fram.new.words) }
     ensures poked { fram.new.poked ≡ fram.old.poked }
     ensures lawful { IsLawful (W.state world.new) }
 {

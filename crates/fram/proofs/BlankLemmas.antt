@@ -13,4 +13,5 @@ zero_or true x e = e
 zero_or false x e = refl
 
 pub words_of-zeros : (ws : List ℕ) (n a : ℕ) → ws ≡ replicate n 0 → words_of ws a ≡ 0
-words_of-zeros ws n a e = zero_or (nat_eq (a % 2) 0) (slice_index ws (a / 2)) (ap (λ l. slice_index l (a / 2)) e ∙ zeros n (a / 2))
+words_of-zeros ws n a e = zero_or (nat_eq (a % 2) 0) (slice_index ws (a / 2))
+    (ap (λ l. slice_index l (a / 2)) e ∙ zeros n (a / 2))

@@ -10,4 +10,5 @@ pub record Contents : Type 0 where
 
 -- the count after a word is set at this byte address: it rises outside the stack and stands still at its end
 abbrev pub poked_after : ℕ → ℕ → ℕ
-poked_after address poked = if nat_le stack_start address && nat_lt address stack_end then poked else min (poked + 1) (2 ^ 64 - 1)
+poked_after address poked =
+    if nat_le stack_start address && nat_lt address stack_end then poked else min (poked + 1) (2 ^ 64 - 1)

@@ -29,13 +29,15 @@ back_start m n f e = record {
   back = λ b. ap (λ k. put_back (λ i. m (undo_address i)) (λ i. m (undo_address i + 2)) k m b) e;
 }
 
-pub back_step : (m w u : ℕ → ℕ) (left k a o : ℕ) → Back m left w → left ≡ suc k → left ≤ count_of m → a ≡ w (undo_address k) → o ≡ w (undo_address k + 2) → u ≡ put w a o → Back m k u
+pub back_step : (m w u : ℕ → ℕ) (left k a o : ℕ) → Back m left w → left ≡ suc k → left ≤ count_of m → a ≡ w (undo_address k)
+    → o ≡ w (undo_address k + 2) → u ≡ put w a o → Back m k u
 back_step m w u left k a o h e within address old was =
     let n : count_of w ≡ count_of m = h.count in
     let most : count_of w ≤ 256 = h.well_formed.count in
     let entry : k < count_of w = omega arith in
     let t : Keeps boot_word w (put w a o) = tick_keeps boot_word w a o h.well_formed (inl (k, entry, sym address)) in
-    let high : outputs_start ≤ a = subst (λ x. outputs_start ≤ x) (sym address) (loggable-range (w (undo_address k)) (h.well_formed.undo k entry).0).0 in
+    let high : outputs_start ≤ a = subst (λ x. outputs_start ≤ x) (sym address)
+    (loggable-range (w (undo_address k)) (h.well_formed.undo k entry).0).0 in
     let ea : a ≡ m (undo_address k) = address ∙ h.low (undo_address k) (omega arith) in
     let eo : o ≡ m (undo_address k + 2) = old ∙ h.low (undo_address k + 2) (omega arith) in
     let p = λ (i : ℕ). m (undo_address i) in

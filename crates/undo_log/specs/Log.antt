@@ -42,4 +42,5 @@ pub record Logs (address : ℕ) (old new : ℕ → ℕ) : Type 0 where
   pub count : count_of new ≡ count_of old + 1
   pub entry : Enters address old new
   pub past : Stays old new
-  pub others : (b : ℕ) → b ≢ undo_address (count_of old) → b ≢ undo_address (count_of old) + 2 → b ≢ count_address (gate_of old) → new b ≡ old b
+  pub others : (b : ℕ) → b ≢ undo_address (count_of old) → b ≢ undo_address (count_of old) + 2
+      → b ≢ count_address (gate_of old) → new b ≡ old b

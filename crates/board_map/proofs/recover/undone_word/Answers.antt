@@ -8,10 +8,13 @@ pub returns-then-at-address : goal.returns-then-at-address
 returns-then-at-address g c =
     let m = g.M.Words.words c.args.words.now in
     let n : c.count-index-end.result ≡ count_of m = c.count-index-end.ensures ∙ ap (λ s. m (count_address s)) c.gate.ensures in
-    undone-read m c.args.address c.loop-index.index c.count-index-end.result c.undo_entry-at.result.0 c.undo_entry-at.result.1 n c.loop-index-test.true c.undo_entry-at.ensures.address c.undo_entry-at.ensures.old c.if-at-address.true c.loop-index.invariant
+    undone-read m c.args.address c.loop-index.index c.count-index-end.result c.undo_entry-at.result.0 c.undo_entry-at.result.1
+    n c.loop-index-test.true c.undo_entry-at.ensures.address c.undo_entry-at.ensures.old c.if-at-address.true
+    c.loop-index.invariant
 
 pub returns : goal.returns
 returns g c =
     let m = g.M.Words.words c.args.words.now in
     let n : c.count-index-end.result ≡ count_of m = c.count-index-end.ensures ∙ ap (λ s. m (count_address s)) c.gate.ensures in
-    c.word.ensures ∙ sym (undone-unlogged m c.args.address (λ i l. c.loop-index.invariant i (omega (arith, n, l, c.loop-index-test.false))))
+    c.word.ensures ∙ sym (undone-unlogged m c.args.address (λ i l. c.loop-index.invariant i
+    (omega (arith, n, l, c.loop-index-test.false))))

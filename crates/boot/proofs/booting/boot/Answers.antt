@@ -12,24 +12,28 @@ returns-in_err-rollback-clause-others g c = λ b l. c.rollback.ensures.others b 
 
 pub returns-in_err-copy_segment-clause-others : goal.returns-in_err-copy_segment-clause-others
 returns-in_err-copy_segment-clause-others g c = λ b l.
-    cut_short (words_of c.args.fram.now.words) (words_of c.rollback.new.fram.words) (words_of c.copy_segment.new.fram.words) b c.rollback.ensures.recovered c.rollback.ensures.others c.copy_segment.ensures.kept l
+    cut_short (words_of c.args.fram.now.words) (words_of c.rollback.new.fram.words) (words_of c.copy_segment.new.fram.words) b
+    c.rollback.ensures.recovered c.rollback.ensures.others c.copy_segment.ensures.kept l
 
 pub returns-in_err-write-clause-others : goal.returns-in_err-write-clause-others
 returns-in_err-write-clause-others g c = λ b l.
     ap (λ ws. words_of ws b) c.in_err-write.ensures.kept
-    ∙ cut_short (words_of c.args.fram.now.words) (words_of c.rollback.new.fram.words) (words_of c.copy_segment.new.fram.words) b c.rollback.ensures.recovered c.rollback.ensures.others c.copy_segment.ensures.kept l
+    ∙ cut_short (words_of c.args.fram.now.words) (words_of c.rollback.new.fram.words) (words_of c.copy_segment.new.fram.words)
+    b c.rollback.ensures.recovered c.rollback.ensures.others c.copy_segment.ensures.kept l
 
 pub returns-in_err-copy_segment-clause-recovered : goal.returns-in_err-copy_segment-clause-recovered
 returns-in_err-copy_segment-clause-recovered g c = c.copy_segment.ensures.kept.recovered ∙ c.rollback.ensures.recovered
 
 pub returns-in_err-write-clause-recovered : goal.returns-in_err-write-clause-recovered
 returns-in_err-write-clause-recovered g c =
-    ap (λ ws. recovered (words_of ws)) c.in_err-write.ensures.kept ∙ c.copy_segment.ensures.kept.recovered ∙ c.rollback.ensures.recovered
+    ap (λ ws. recovered (words_of ws)) c.in_err-write.ensures.kept ∙ c.copy_segment.ensures.kept.recovered
+    ∙ c.rollback.ensures.recovered
 
 pub returns : goal.returns
 returns g c =
     let h : Restored (words_of c.args.fram.now.words) (words_of c.write.new.self.words) =
-    restored (words_of c.args.fram.now.words) (words_of c.rollback.new.fram.words) (words_of c.copy_segment.new.fram.words) (words_of c.write.new.self.words) c.gate-slot.result
+    restored (words_of c.args.fram.now.words) (words_of c.rollback.new.fram.words) (words_of c.copy_segment.new.fram.words)
+    (words_of c.write.new.self.words) c.gate-slot.result
     (record {
       undone = c.in_ok-rollback.ensures.undone;
       others = c.rollback.ensures.others;

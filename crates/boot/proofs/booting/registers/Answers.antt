@@ -1,5 +1,6 @@
 -- One register is set in each turn.
-use Rattle.std.proofs.Common.{◌≡◌, ℕ, ◌+◌, ◌<◌, List, length, slice_index, slice_set, sym, ◌∙◌, ap, inl, inr, arith, get_or-set_same, get_or-set_other, length-set}
+use Rattle.std.proofs.Common.{◌≡◌, ℕ, ◌+◌, ◌<◌, List, length, slice_index, slice_set, sym, ◌∙◌, ap, inl, inr, arith}
+use Rattle.std.proofs.Common.{get_or-set_same, get_or-set_other, length-set}
 use Rattle.std.proofs.lemmas.Bool.Decides.{nat_tests}
 use Rattle.base16.specs.Memory.{words_of}
 use Rattle.board_map.specs.Map.{slot_address, current}
@@ -7,7 +8,8 @@ use Rattle.board_map.specs.Recovered.{first}
 use Rattle.board_map.proofs.Writes.{same_or_not}
 use Rattle.boot.proofs.booting.registers.Goals as goal
 
-set_one : (r : List ℕ) (f : ℕ → ℕ) (n x : ℕ) → length r ≡ 16 → n < 16 → ((k : ℕ) → k < n → slice_index r k ≡ f k) → x ≡ f n → (k : ℕ) → k < n + 1 → slice_index (slice_set r n x) k ≡ f k
+set_one : (r : List ℕ) (f : ℕ → ℕ) (n x : ℕ) → length r ≡ 16 → n < 16 → ((k : ℕ) → k < n → slice_index r k ≡ f k) → x ≡ f n
+    → (k : ℕ) → k < n + 1 → slice_index (slice_set r n x) k ≡ f k
 set_one r f n x size within before value k below =
     let room : n < length r = omega arith in
     let here : slice_index (slice_set r n x) n ≡ x = get_or-set_same r n x 0 room in
@@ -24,7 +26,8 @@ loop-index-preserved c =
     let m = words_of c.args.fram.now.words in
     record {
       size = length-set c.loop-index.r c.loop-index.index c.slot_word.result ∙ c.loop-index.invariant.size;
-      filled = set_one c.loop-index.r (λ k. current m (128 + k)) c.loop-index.index c.slot_word.result c.loop-index.invariant.size c.loop-index-test.true c.loop-index.invariant.filled
+      filled = set_one c.loop-index.r (λ k. current m (128 + k)) c.loop-index.index c.slot_word.result
+          c.loop-index.invariant.size c.loop-index-test.true c.loop-index.invariant.filled
           (c.slot_word.ensures ∙ ap (λ s. m (slot_address s (128 + c.loop-index.index))) c.gate-slot.ensures);
     }
 

@@ -9,5 +9,7 @@ pub returns-in_err-switch-clause-off : goal.returns-in_err-switch-clause-off
 returns-in_err-switch-clause-off g c = always_err c.from_residual.result c.in_err-switch.ensures.off
 
 pub returns-clause-committed : goal.returns-clause-committed
-returns-clause-committed g c = c.in_ok-switch.ensures.committed ∙ ap (λ s. machine_of c.args.regs.now.r s (words_of c.args.fram.now.words))
-    (c.state_of-state.ensures ∙ ap (λ k. state_words c.args.work.now.segment (if c.args.work.now.block_open then 1 else 0) c.args.work.now.block_length c.args.work.now.marks (c.args.work.now.commits + 1) k) c.clock-clock.ensures.value)
+returns-clause-committed g c = c.in_ok-switch.ensures.committed
+    ∙ ap (λ s. machine_of c.args.regs.now.r s (words_of c.args.fram.now.words))
+    (c.state_of-state.ensures ∙ ap (λ k. state_words c.args.work.now.segment (if c.args.work.now.block_open then 1 else 0)
+    c.args.work.now.block_length c.args.work.now.marks (c.args.work.now.commits + 1) k) c.clock-clock.ensures.value)

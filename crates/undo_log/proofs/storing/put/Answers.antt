@@ -17,11 +17,15 @@ returns-then-address-start-2-clause-recovered g c =
     let low : segment_start (segment_of m) ≤ c.args.address = omega arith in
     let high : c.args.address < segment_top (segment_of m) = omega arith in
     either c.write.result
-    (on_ok_weaker c.write.result (λ e. (written m (words_of c.write.new.self.words) c.args.address c.args.word c.requires.well_formed low high e).recovered) c.write.ensures.memory)
-    (on_err_weaker c.write.result (λ (e : c.write.new.self.words ≡ c.args.fram.now.words). ap (λ ws. recovered (words_of ws)) e) c.write.ensures.kept)
+    (on_ok_weaker c.write.result (λ e. (written m (words_of c.write.new.self.words) c.args.address c.args.word
+    c.requires.well_formed low high e).recovered) c.write.ensures.memory)
+    (on_err_weaker c.write.result (λ (e : c.write.new.self.words ≡ c.args.fram.now.words). ap (λ ws. recovered (words_of ws))
+    e) c.write.ensures.kept)
 
 pub returns-then-address-start-2-clause-others : goal.returns-then-address-start-2-clause-others
 returns-then-address-start-2-clause-others g c = λ b h.
     either c.write.result
-    (on_ok_weaker c.write.result (λ e. ap (λ (f : ℕ → ℕ). f b) e ∙ put-other (words_of c.args.fram.now.words) c.args.address c.args.word b h.place) c.write.ensures.memory)
-    (on_err_weaker c.write.result (λ (e : c.write.new.self.words ≡ c.args.fram.now.words). ap (λ ws. words_of ws b) e) c.write.ensures.kept)
+    (on_ok_weaker c.write.result (λ e. ap (λ (f : ℕ → ℕ). f b) e
+    ∙ put-other (words_of c.args.fram.now.words) c.args.address c.args.word b h.place) c.write.ensures.memory)
+    (on_err_weaker c.write.result (λ (e : c.write.new.self.words ≡ c.args.fram.now.words). ap (λ ws. words_of ws b) e)
+    c.write.ensures.kept)
