@@ -1,5 +1,8 @@
+pub mod Along
+pub mod Deeds
 pub mod Effects
 pub mod Loading
 pub mod Refusing
 pub mod Running
+pub mod Runs
 pub mod Serving

@@ -1,5 +1,6 @@
 -- The parts of the memory that services and settled bytes speak of, by byte address.
-use Rattle.std.specs.Prelude.{ℕ, ◌-◌, ◌/◌, ◌%◌, ◌+◌, Bool, ◌&&◌, ◌||◌, nat_eq, nat_le, nat_lt}
+use Rattle.std.specs.Prelude.{ℕ, ◌-◌, ◌/◌, ◌%◌, Bool, false, ◌&&◌, ◌||◌, nat_eq, nat_le, nat_lt}
+use Rattle.core430.specs.Uses.{access_bytes}
 use Rattle.base16.specs.Board.{outputs_start, outputs_end, stack_start, stack_end, segment_bytes, segment_start, segment_top, data_start, data_end, code_end}
 
 -- from the first address up to below the second
@@ -34,4 +35,4 @@ is_fixed a = is_between outputs_start outputs_end a || is_between data_start cod
 
 -- the two bytes of the word at an address
 abbrev pub is_in_word : (a b : ℕ) → Bool
-is_in_word a b = nat_eq b a || nat_eq b (a + 1)
+is_in_word a b = access_bytes false a b

@@ -1,5 +1,6 @@
 -- Which bytes count: a byte that does not may be anything, and after a power failure it is.
-use Rattle.std.specs.Prelude.{ℕ, Bool, false, not, ◌&&◌, ◌||◌, nat_eq, nat_le, if◌then◌else◌, List, [], ◌∷◌}
+use Rattle.std.specs.Prelude.{ℕ, Bool, true, false, not, ◌&&◌, ◌||◌, nat_le, if◌then◌else◌, List, [], ◌∷◌}
+use Rattle.core430.specs.Uses.{access_bytes}
 use Rattle.ideal430.specs.Places.{is_in_segment, is_up_to, is_above, is_fixed, is_in_word, segment_of}
 use Rattle.ideal430.specs.Service.{Noted}
 use Rattle.ideal430.specs.declared.service.Store.{Store}
@@ -15,7 +16,7 @@ no_bytes b = false
 -- the bytes that a store writes: a byte's alone, and not the other one of its word
 abbrev pub store_bytes : Store → Bytes
 store_bytes (Word a w) b = is_in_word a b
-store_bytes (Byte a v) b = nat_eq b a
+store_bytes (Byte a v) b = access_bytes true a b
 store_bytes (Link a w) b = is_in_word a b
 
 abbrev pub stores_bytes : List Store → Bytes
