@@ -4,7 +4,8 @@ use Rattle.std.proofs.Math.Seq.{drop-length}
 use Rattle.c_tree.specs.declared.unit.Param.{Param}
 use Rattle.c_parse.specs.Externals.{all_named}
 
-pub named_turn : (ps : List Param) (at : ℕ) (p : Param) → at < length ps → p ≡ get_or ps at p → all_named (drop at ps) ≡ (is_some p.name && all_named (drop (at + 1) ps))
+pub named_turn : (ps : List Param) (at : ℕ) (p : Param) → at < length ps → p ≡ get_or ps at p
+    → all_named (drop at ps) ≡ (is_some p.name && all_named (drop (at + 1) ps))
 named_turn ps at p h is = rw (drop-cons ps at p h, ← is) (rw add-one refl)
 
 pub named_end : (ps : List Param) (at : ℕ) → at ≡ length ps → all_named (drop at ps) ≡ true

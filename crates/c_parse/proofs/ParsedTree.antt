@@ -2,10 +2,10 @@
 use Rattle.std.proofs.Common.{◌≡◌, ◌≤◌, Option, Some, None, Result, Ok, Err, IfOk, MatchResult, refl, subst}
 use Rattle.c_tree.specs.declared.unit.Tree.{Tree}
 use Rattle.c_tree.specs.Measure.{height}
-use Rattle.c_parse.specs.declared.error.ParseErr.{ParseErr}
-use Rattle.c_parse.specs.declared.error.ParseErr.TheVariants.{Syntax, NoMemory}
-use Rattle.c_parse.specs.TypeWords.{Tokens}
-use Rattle.c_parse.specs.Answered.{Answers}
+use Rattle.c_parse_expr.specs.declared.error.ParseErr.{ParseErr}
+use Rattle.c_parse_expr.specs.declared.error.ParseErr.TheVariants.{Syntax, NoMemory}
+use Rattle.c_parse_expr.specs.TypeWords.{Tokens}
+use Rattle.c_parse_expr.specs.Answered.{Answers}
 use Rattle.c_parse.specs.Externals.{SpellsTree}
 use Rattle.c_parse.specs.ExternalReading.{source}
 use Rattle.c_parse.proofs.ExternalSound.{Sourced, IsSource, no_source, a_source, source_sound}

@@ -1,7 +1,7 @@
 -- What a whole source is read as, and what it is spelled by.
 use Rattle.std.proofs.Common.{◌≡◌, ℕ, suc, Option, Some, None, subst}
 use Rattle.c_tree.specs.declared.unit.Tree.{Tree}
-use Rattle.c_parse.specs.TypeWords.{Tokens}
+use Rattle.c_parse_expr.specs.TypeWords.{Tokens}
 use Rattle.c_parse.specs.ExternalReading.{source}
 use Rattle.c_parse.proofs.ExternalSound.{Sourced, IsSource, no_source, a_source, source_sound}
 

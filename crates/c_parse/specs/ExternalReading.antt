@@ -19,16 +19,16 @@ use Rattle.c_tree.specs.declared.unit.Params.TheVariants as params
 use Rattle.c_tree.specs.declared.unit.External.{External}
 use Rattle.c_tree.specs.declared.unit.External.TheVariants as external
 use Rattle.c_tree.specs.declared.unit.Tree.{Tree}
-use Rattle.c_parse.specs.declared.wanted.Wanted.TheVariants as want
-use Rattle.c_parse.specs.Expected.{fits}
-use Rattle.c_parse.specs.Ranks.{conditional_rank}
-use Rattle.c_parse.specs.TypeWords.{Tokens, line_at}
-use Rattle.c_parse.specs.Steps.{Parser, Outcome, ◌>>=◌, ◌>>◌, pure, expect, eat, eat_word, closing, word}
-use Rattle.c_parse.specs.TypeReading.{spec, all_stars}
-use Rattle.c_parse.specs.Reading as e
-use Rattle.c_parse.specs.Repeats.{all_commas, all_many}
-use Rattle.c_parse.specs.DeclarationReading.{mark_next, duration, init, declaration, declaration_rest}
-use Rattle.c_parse.specs.StatementReading.{unclosed, a_compound, statement}
+use Rattle.c_parse_expr.specs.declared.wanted.Wanted.TheVariants as want
+use Rattle.c_parse_expr.specs.Expected.{fits}
+use Rattle.c_parse_expr.specs.Ranks.{conditional_rank}
+use Rattle.c_parse_expr.specs.TypeWords.{Tokens, line_at}
+use Rattle.c_parse_expr.specs.Steps.{Parser, Outcome, ◌>>=◌, ◌>>◌, pure, expect, eat, eat_word, closing, word, mark_next}
+use Rattle.c_parse_expr.specs.TypeReading.{spec, all_stars}
+use Rattle.c_parse_expr.specs.Reading as e
+use Rattle.c_parse_stmt.specs.Repeats.{all_commas, all_many}
+use Rattle.c_parse_stmt.specs.DeclarationReading.{duration, init, declaration, declaration_rest}
+use Rattle.c_parse_stmt.specs.StatementReading.{unclosed, a_compound, statement}
 use Rattle.c_parse.specs.Externals.{void_alone, named_in}
 
 -- whether a struct is defined here
@@ -124,7 +124,8 @@ module _ (d : ℕ) where
     pure (params.List ps)
 
   unfoldable pub takes : Parser Params
-  takes = λ ts. if void_alone ts then void_param ts else (if mark_next m.RightParen ts then Some (params.Void false, ts) else param_list ts)
+  takes = λ ts. if void_alone ts then void_param ts else
+      (if mark_next m.RightParen ts then Some (params.Void false, ts) else param_list ts)
 
   unfoldable pub no_body : Parser (Option Compound)
   no_body = do

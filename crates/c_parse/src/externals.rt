@@ -1,21 +1,17 @@
 //! The parts of a source outside functions (C99 6.9).
 
-ghost use Rattle.std.specs.Prelude.{◌<◌};
-ghost use Rattle.c_parse.specs.Nests.{Reads};
-ghost use Rattle.c_parse.specs.Repeats.{all_commas, all_many};
-ghost use Rattle.c_parse.specs.StatementReading.{unclosed};
-ghost use Rattle.c_parse.specs.TypeWords.{line_at};
+ghost use Rattle.std.specs.Prelude.{◌≡◌, ◌<◌};
+ghost use Rattle.c_parse_expr.specs.Nests.{Reads};
+ghost use Rattle.c_parse_stmt.specs.Repeats.{all_commas, all_many};
+ghost use Rattle.c_parse_stmt.specs.StatementReading.{unclosed};
+ghost use Rattle.c_parse_expr.specs.TypeWords.{line_at};
 ghost use Rattle.c_parse.specs.ExternalReading as spec;
 
-use crate::cursor::Cursor;
-use crate::declarations::{declaration, declaration_rest, duration, inits};
-use crate::error::ParseErr;
 use crate::functions::{function_end, takes};
-use crate::grammar::bounds;
-use crate::types::{spec, stars};
-use crate::wanted::Wanted;
 use base16::Name;
 use c_lex::{Keyword, Mark, Note};
+use c_parse_expr::{Cursor, ParseErr, Wanted, fits, read_bounds, read_spec, read_stars};
+use c_parse_stmt::{read_declaration, read_declaration_rest, read_duration, read_inits, unclosed};
 use c_tree::{Declr, External, Function, Init, Member, Qual, Spec, Struct};
 use sqlite_items::Items;
 use std::alloc::Global;
@@ -24,9 +20,9 @@ use std::alloc::Global;
 fn declr(alloc: Global, tokens: &mut Cursor<'_>, depth: u16) -> Result<Declr, ParseErr>
     ensures { Reads (spec.declr depth tokens.old) result tokens.new }
 {
-    let stars = stars(alloc, tokens)?;
+    let stars = read_stars(alloc, tokens)?;
     let name = tokens.word(alloc)?;
-    let bounds = bounds(alloc, tokens, depth)?;
+    let bounds = read_bounds(alloc, tokens, depth)?;
     Ok(Declr {
         stars,
         name,
@@ -34,7 +30,7 @@ fn declr(alloc: Global, tokens: &mut Cursor<'_>, depth: u16) -> Result<Declr, Pa
     })
 }
 
-#[tactic(auto, using(crate::proofs::ListTurns::commas_turn, crate::proofs::ListTurns::commas_end, crate::proofs::ListTurns::all_commas_is))]
+#[tactic(auto, using(c_parse_stmt::proofs::ListTurns::commas_turn, c_parse_stmt::proofs::ListTurns::commas_end, c_parse_stmt::proofs::ListTurns::all_commas_is))]
 fn declrs(alloc: Global, tokens: &mut Cursor<'_>, depth: u16) -> Result<Items<Declr>, ParseErr>
     ensures { Reads (all_commas (spec.declr depth) tokens.old) result tokens.new }
 {
@@ -52,19 +48,19 @@ fn declrs(alloc: Global, tokens: &mut Cursor<'_>, depth: u16) -> Result<Items<De
 fn member(alloc: Global, tokens: &mut Cursor<'_>, depth: u16) -> Result<Member, ParseErr>
     ensures { Reads (spec.member depth tokens.old) result tokens.new }
 {
-    let spec = spec(alloc, tokens)?;
+    let spec = read_spec(alloc, tokens)?;
     let declrs = declrs(alloc, tokens, depth)?;
     tokens.expect(Wanted::Mark(Mark::Semicolon))?;
     Ok(Member { spec, declrs })
 }
 
-#[tactic(auto, using(crate::proofs::ListTurns::many_turn, crate::proofs::ListTurns::many_end, crate::proofs::ListTurns::all_many_is))]
+#[tactic(auto, using(c_parse_stmt::proofs::ListTurns::many_turn, c_parse_stmt::proofs::ListTurns::many_end, c_parse_stmt::proofs::ListTurns::all_many_is))]
 fn members(alloc: Global, tokens: &mut Cursor<'_>, depth: u16) -> Result<Items<Member>, ParseErr>
     ensures { Reads (all_many (spec.member depth) unclosed tokens.old) result tokens.new }
 {
     let mut found = Items::new(alloc);
     for _turn in 0..tokens.left() {
-        if !tokens.unclosed() {
+        if !unclosed(tokens) {
             return Ok(found);
         }
         found.push(member(alloc, tokens, depth)?)?;
@@ -103,7 +99,7 @@ fn some_inits(alloc: Global, tokens: &mut Cursor<'_>, depth: u16) -> Result<Item
     if tokens.mark_next(Mark::Semicolon) {
         return Ok(Items::new(alloc));
     }
-    inits(alloc, tokens, depth)
+    read_inits(alloc, tokens, depth)
 }
 
 #[tactic(auto, unfolding(crate::specs::ExternalReading::struct_external))]
@@ -119,6 +115,29 @@ fn struct_external(
     let inits = some_inits(alloc, tokens, depth)?;
     tokens.expect(Wanted::Mark(Mark::Semicolon))?;
     Ok(External::Struct { defined, inits })
+}
+
+/// Whether a struct is defined here.
+fn struct_next(tokens: &Cursor<'_>) -> bool
+    ensures { result ≡ spec.struct_next tokens.now }
+{
+    match tokens.rest() {
+        [token, _, next, ..] => {
+            fits(Wanted::Keyword(Keyword::Struct), &token.kind)
+                && fits(Wanted::Mark(Mark::LeftBrace), &next.kind)
+        }
+        _ => false,
+    }
+}
+
+/// Whether the lifetime of a declaration comes next.
+fn lifetime_next(tokens: &Cursor<'_>) -> bool
+    ensures { result ≡ spec.lifetime_next tokens.now }
+{
+    match tokens.rest() {
+        [token, ..] => fits(Wanted::Note(Note::ExpiresAfter), &token.kind),
+        [] => false,
+    }
 }
 
 /// What stands before the parameters of a function: whether `static` does, the line where the function begins, its base
@@ -140,7 +159,8 @@ fn function_rest(
     depth: u16,
     heading: Heading,
 ) -> Result<External, ParseErr>
-    ensures { Reads (spec.function_rest depth heading.is_static heading.line heading.spec heading.stars heading.name tokens.old) result tokens.new }
+    ensures { Reads (spec.function_rest depth heading.is_static heading.line heading.spec heading.stars heading.name
+        tokens.old) result tokens.new }
 {
     let params = takes(alloc, tokens, depth)?;
     tokens.expect(Wanted::Mark(Mark::RightParen))?;
@@ -171,7 +191,7 @@ fn front_rest(
     ensures { Reads (spec.front_rest depth is_static line base (line_at tokens.old) tokens.old) result tokens.new }
 {
     let at = tokens.line();
-    let stars = stars(alloc, tokens)?;
+    let stars = read_stars(alloc, tokens)?;
     let name = tokens.word(alloc)?;
     if tokens.take_if(Wanted::Mark(Mark::LeftParen)) {
         let heading = Heading {
@@ -183,7 +203,7 @@ fn front_rest(
         };
         return function_rest(alloc, tokens, depth, heading);
     }
-    let declaration = declaration_rest(alloc, tokens, depth, base, at, stars, name)?;
+    let declaration = read_declaration_rest(alloc, tokens, depth, base, at, stars, name)?;
     Ok(External::Declaration {
         is_static,
         lifetime: None,
@@ -201,7 +221,7 @@ fn front(
     ensures { Reads (spec.front depth is_static (line_at tokens.old) tokens.old) result tokens.new }
 {
     let line = tokens.line();
-    let spec = spec(alloc, tokens)?;
+    let spec = read_spec(alloc, tokens)?;
     front_rest(alloc, tokens, depth, is_static, line, spec)
 }
 
@@ -218,9 +238,9 @@ fn timed_declaration(
 {
     tokens.expect(Wanted::Note(Note::ExpiresAfter))?;
     tokens.expect(Wanted::Mark(Mark::LeftParen))?;
-    let lifetime = duration(tokens)?;
+    let lifetime = read_duration(tokens)?;
     tokens.expect(Wanted::Mark(Mark::RightParen))?;
-    let declaration = declaration(alloc, tokens, depth + 1)?;
+    let declaration = read_declaration(alloc, tokens, depth + 1)?;
     Ok(External::Declaration {
         is_static,
         lifetime: Some(lifetime),
@@ -235,7 +255,7 @@ fn plain_external(alloc: Global, tokens: &mut Cursor<'_>, depth: u16) -> Result<
     ensures { Reads (spec.plain_external depth tokens.old) result tokens.new }
 {
     let is_static = tokens.take_if(Wanted::Keyword(Keyword::Static));
-    if tokens.lifetime_next() {
+    if lifetime_next(tokens) {
         return timed_declaration(alloc, tokens, depth, is_static);
     }
     front(alloc, tokens, depth, is_static)
@@ -246,7 +266,7 @@ fn external(alloc: Global, tokens: &mut Cursor<'_>, depth: u16) -> Result<Extern
     requires { depth < 65535 }
     ensures { Reads (spec.an_external depth tokens.old) result tokens.new }
 {
-    if tokens.struct_next() {
+    if struct_next(tokens) {
         let line = tokens.line();
         return struct_external(alloc, tokens, depth, line);
     }
@@ -254,7 +274,7 @@ fn external(alloc: Global, tokens: &mut Cursor<'_>, depth: u16) -> Result<Extern
 }
 
 /// All that stands outside functions; what is in it is of this height at most.
-#[tactic(auto, using(crate::proofs::ListTurns::many_turn, crate::proofs::ListTurns::many_end, crate::proofs::ListTurns::all_many_is))]
+#[tactic(auto, using(c_parse_stmt::proofs::ListTurns::many_turn, c_parse_stmt::proofs::ListTurns::many_end, c_parse_stmt::proofs::ListTurns::all_many_is))]
 pub fn externals(
     alloc: Global,
     tokens: &mut Cursor<'_>,

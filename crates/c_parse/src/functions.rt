@@ -1,21 +1,17 @@
 //! The parameters and the end of a function (C99 6.7.5.3 and 6.9.1).
 
 ghost use Rattle.std.specs.Prelude.{◌≡◌};
-ghost use Rattle.c_parse.specs.Nests.{Reads};
-ghost use Rattle.c_parse.specs.Repeats.{all_commas};
+ghost use Rattle.c_parse_expr.specs.Nests.{Reads};
+ghost use Rattle.c_parse_stmt.specs.Repeats.{all_commas};
 ghost use Rattle.c_parse.specs.Externals as grammar;
 ghost use Rattle.c_parse.specs.ExternalReading as spec;
 
-use crate::cursor::Cursor;
-use crate::error::ParseErr;
-use crate::grammar::{bounds, expr};
-use crate::statements::compound;
-use crate::types::{spec, stars};
-use crate::wanted::Wanted;
 use base16::Name;
 use c_lex::{Keyword, Mark, TokenKind};
+use c_parse_expr::{Cursor, ParseErr, Wanted, fits, read_bounds, read_expr, read_spec, read_stars};
+use c_parse_stmt::read_compound;
 use c_tree::{Compound, Expr, Param, Params};
-use sqlite_items::Items;
+use sqlite_items::{Boxed, Items};
 use std::alloc::Global;
 
 /// The name of a parameter, if it has one.
@@ -38,13 +34,13 @@ fn title(alloc: Global, tokens: &mut Cursor<'_>) -> Result<Option<Name>, ParseEr
 
 /// The size in the first brackets of a parameter, if one stands there.
 #[tactic(auto, unfolding(crate::specs::ExternalReading::size, crate::specs::ExternalReading::given_size))]
-fn size(alloc: Global, tokens: &mut Cursor<'_>, depth: u16) -> Result<Option<Expr>, ParseErr>
+fn size(alloc: Global, tokens: &mut Cursor<'_>, depth: u16) -> Result<Option<Boxed<Expr>>, ParseErr>
     ensures { Reads (spec.size depth tokens.old) result tokens.new }
 {
     if tokens.mark_next(Mark::RightBracket) {
         return Ok(None);
     }
-    Ok(Some(expr(alloc, tokens, depth, 3)?))
+    Ok(Some(read_expr(alloc, tokens, depth, 3)?))
 }
 
 #[tactic(auto, unfolding(crate::specs::ExternalReading::bracket_rest))]
@@ -57,7 +53,11 @@ fn bracket_rest(
 {
     let first = size(alloc, tokens, depth)?;
     tokens.expect(Wanted::Mark(Mark::RightBracket))?;
-    let others = bounds(alloc, tokens, depth)?;
+    let others = read_bounds(alloc, tokens, depth)?;
+    let first = match first {
+        Some(size) => Some(size.into_inner()),
+        None => None,
+    };
     Ok((Some(first), others))
 }
 
@@ -80,8 +80,8 @@ fn brackets(
 fn param(alloc: Global, tokens: &mut Cursor<'_>, depth: u16) -> Result<Param, ParseErr>
     ensures { Reads (spec.param depth tokens.old) result tokens.new }
 {
-    let spec = spec(alloc, tokens)?;
-    let stars = stars(alloc, tokens)?;
+    let spec = read_spec(alloc, tokens)?;
+    let stars = read_stars(alloc, tokens)?;
     let name = title(alloc, tokens)?;
     let (first_bound, bounds) = brackets(alloc, tokens, depth)?;
     Ok(Param {
@@ -93,7 +93,7 @@ fn param(alloc: Global, tokens: &mut Cursor<'_>, depth: u16) -> Result<Param, Pa
     })
 }
 
-#[tactic(auto, using(crate::proofs::ListTurns::commas_turn, crate::proofs::ListTurns::commas_end, crate::proofs::ListTurns::all_commas_is))]
+#[tactic(auto, using(c_parse_stmt::proofs::ListTurns::commas_turn, c_parse_stmt::proofs::ListTurns::commas_end, c_parse_stmt::proofs::ListTurns::all_commas_is))]
 fn param_list(alloc: Global, tokens: &mut Cursor<'_>, depth: u16) -> Result<Items<Param>, ParseErr>
     ensures { Reads (all_commas (spec.param depth) tokens.old) result tokens.new }
 {
@@ -107,12 +107,25 @@ fn param_list(alloc: Global, tokens: &mut Cursor<'_>, depth: u16) -> Result<Item
     Err(tokens.refuse())
 }
 
+/// Whether `void` and the parenthesis that closes come next.
+fn void_alone(tokens: &Cursor<'_>) -> bool
+    ensures { result ≡ grammar.void_alone tokens.now }
+{
+    match tokens.rest() {
+        [token, next, ..] => {
+            fits(Wanted::Keyword(Keyword::Void), &token.kind)
+                && fits(Wanted::Mark(Mark::RightParen), &next.kind)
+        }
+        _ => false,
+    }
+}
+
 /// What stands in the parentheses of a function.
 #[tactic(auto, unfolding(crate::specs::ExternalReading::takes, crate::specs::ExternalReading::void_param, crate::specs::ExternalReading::param_list))]
 pub fn takes(alloc: Global, tokens: &mut Cursor<'_>, depth: u16) -> Result<Params, ParseErr>
     ensures { Reads (spec.takes depth tokens.old) result tokens.new }
 {
-    if tokens.void_alone() {
+    if void_alone(tokens) {
         tokens.expect(Wanted::Keyword(Keyword::Void))?;
         return Ok(Params::Void { is_written: true });
     }
@@ -161,5 +174,5 @@ pub fn function_end(
     if !named_in(params) {
         return Err(tokens.refuse());
     }
-    Ok(Some(compound(alloc, tokens, depth, false, false)?))
+    Ok(Some(read_compound(alloc, tokens, depth, false, false)?))
 }

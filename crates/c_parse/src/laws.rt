@@ -3,7 +3,7 @@
 ghost use Rattle.std.specs.Prelude.{◌≡◌, ◌≤◌, ℕ, suc, Some};
 ghost use Rattle.c_tree.specs.declared.unit.Tree.{Tree as ATree};
 ghost use Rattle.c_tree.specs.Measure.{height};
-ghost use Rattle.c_parse.specs.TypeWords.{Tokens};
+ghost use Rattle.c_parse_expr.specs.TypeWords.{Tokens};
 ghost use Rattle.c_parse.specs.Externals.{SpellsTree};
 ghost use Rattle.c_parse.specs.ExternalReading.{source};
 

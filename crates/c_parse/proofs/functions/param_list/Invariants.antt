@@ -1,5 +1,5 @@
 use Rattle.std.proofs.Common.{◌≡◌, ◌-◌}
-use Rattle.c_parse.specs.Repeats.{commas, all_commas}
+use Rattle.c_parse_stmt.specs.Repeats.{commas, all_commas}
 use Rattle.c_parse.specs.ExternalReading.{param}
 use Rattle.c_parse.proofs.functions.param_list.Given as goal
 

@@ -1,8 +1,0 @@
-use Rattle.std.proofs.Common.{◌≡◌, ◌-◌}
-use Rattle.c_parse.specs.Repeats.{many, all_many}
-use Rattle.c_parse.specs.StatementReading.{statement, a_group, unclosed}
-use Rattle.c_parse.proofs.compounds.Statements.groups.Given as goal
-
-abbrev pub invariant-loop-turn : goal.invariant-loop-turn
-invariant-loop-turn g l = all_many (a_group l.self.depth (statement l.self.depth) l.continues) unclosed l.fn.tokens
-    ≡ many (a_group l.self.depth (statement l.self.depth) l.continues) unclosed (l._turn-end - l._turn) l.found l.tokens

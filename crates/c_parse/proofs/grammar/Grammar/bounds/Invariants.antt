@@ -1,6 +1,0 @@
-use Rattle.std.proofs.Common.{◌≡◌, ◌-◌}
-use Rattle.c_parse.specs.Reading.{expr, bounds, all_bounds}
-use Rattle.c_parse.proofs.grammar.Grammar.bounds.Given as goal
-
-abbrev pub invariant-loop-turn : goal.invariant-loop-turn
-invariant-loop-turn g l = all_bounds (expr l.self.depth) l.fn.tokens ≡ bounds (expr l.self.depth) (l._turn-end - l._turn) l.found l.tokens

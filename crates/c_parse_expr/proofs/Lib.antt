@@ -1,0 +1,13 @@
+pub mod Fitting
+pub mod RankOf
+pub mod AfterSteps
+pub mod Operators
+pub mod TypeSound
+pub mod Sound
+pub mod TypeComplete
+pub mod Complete
+pub mod TypeTurns
+pub mod Turns
+pub mod ExprTurns
+pub mod WholeExpression
+pub mod Casts

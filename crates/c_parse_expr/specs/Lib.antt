@@ -1,0 +1,12 @@
+pub mod Expected
+pub mod Ranks
+pub mod Tables
+pub mod TypeWords
+pub mod Grammar
+pub mod Steps
+pub mod TypeReading
+pub mod Reading
+pub mod Nests
+pub mod Operators
+pub mod Answered
+pub mod ExpressionReading
