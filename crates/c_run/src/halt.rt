@@ -5,7 +5,7 @@ use base16::{EndKind, NoMemory};
 use std::alloc::AllocError;
 
 /// Why a run does not go on.
-#[derive(Clone, Copy)]
+#[derive(Clone, Copy, Debug, PartialEq, Eq)]
 pub enum Halt {
     /// The mark that was asked for is made, and not counted yet.
     Live,

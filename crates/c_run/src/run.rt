@@ -230,11 +230,7 @@ impl Run {
             frame,
             locals,
         })?;
-        if self.left == 0 {
-            return Err(Halt::Live);
-        }
-        self.left -= 1;
-        self.state.marks += 1;
+        self.mark()?;
         self.next += objects.len() as u64;
         Ok(first)
     }

@@ -132,7 +132,8 @@ fn remainder(at: IntType, left: i64, right: i64) -> Result<i64, u8>
     if right == 0 {
         return Err(2);
     }
-    match settled(at, left / right) {
+    let quotient = left / right;
+    match settled(at, quotient) {
         Ok(_quotient) => Ok(left % right),
         Err(rule) => Err(rule),
     }
