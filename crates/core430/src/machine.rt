@@ -81,7 +81,8 @@ fn finish<M: Memory>(change: Change, before: &Regs, regs: &mut Regs, memory: &mu
     }
 }
 
-/// An instruction of the table, and the number of its words.
+/// An instruction of the table, and the number of its words, 1 to 3: what `execute` takes. A caller that knows that no write
+/// falls on its code decodes each instruction once.
 #[derive(Clone, Copy, Debug, PartialEq, Eq)]
 pub struct Ready {
     pub instr: Instr,
@@ -90,7 +91,7 @@ pub struct Ready {
     pub ghost size: { 2 * len ≡ size_of instr },
 }
 
-/// The instruction that stands at an even address.
+/// The instruction that stands at an even address; none exactly where the first word is outside the table.
 pub fn fetch<M: Memory>(address: u16, memory: &M) -> Option<Ready>
     requires { address % 2 ≡ 0 }
     ensures { MatchOption result (instr_at (M.words memory.now) address ≡ None) (λ d. instr_at (M.words memory.now) address ≡ Some d.instr) }
@@ -104,7 +105,8 @@ pub fn fetch<M: Memory>(address: u16, memory: &M) -> Option<Ready>
     Some(Ready { instr, len })
 }
 
-/// Executes an instruction that stands at PC.
+/// Executes an instruction as if it stood at PC: where it does, this is the step. `Wild` comes as in `step`, from an odd
+/// address on; registers and memory are then as before.
 #[tactic(auto, using(crate::proofs::Validity::operands_there))]
 #[inline(always)]
 pub fn execute<M: Memory>(ready: Ready, regs: &mut Regs, memory: &mut M) -> Stepped

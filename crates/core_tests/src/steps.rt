@@ -1,7 +1,7 @@
 ghost use Rattle.std.specs.Prelude.{◌<◌, ◌^◌, [], nat_lt};
 
 use base16::{NoMemory, Regs};
-use core430::{Denied, Memory, PlainMemory, Stepped, step};
+use core430::{Denied, Memory, PlainMemory, Stepped, execute, fetch, step};
 use std::alloc::Global;
 use std::test::Fail;
 
@@ -488,6 +488,37 @@ fn a_plain_memory_keeps_each_word(rt: HostRuntime) -> Result<(), Fail> {
     assert_eq!(rt; memory.put(0xfffe, 8), Ok(()));
     for (address, word) in [(0, 7), (2, 0), (0xfffc, 0), (0xfffe, 8)] {
         assert_eq!(rt; memory.get(address), word, "at {address}");
+    }
+    Ok(())
+}
+
+/// The words of an instruction, how many it takes, and PC, R12, R13 and the word at 4000 after it.
+const DECODED: [([u16; 3], u8, [u16; 4]); 5] = [
+    // MOV R12,R13; MOV #3,R12; MOV #5,&4000; JMP to itself; RRA R13
+    ([0x4c0d, 0, 0], 1, [0x8002, 0x1111, 0x1111, 0x1234]),
+    ([0x403c, 3, 0], 2, [0x8004, 3, 0x2222, 0x1234]),
+    ([0x40b2, 5, 0x4000], 3, [0x8006, 0x1111, 0x2222, 5]),
+    ([0x3fff, 0, 0], 1, [0x8000, 0x1111, 0x2222, 0x1234]),
+    ([0x110d, 0, 0], 1, [0x8002, 0x1111, 0x1111, 0x1234]),
+];
+
+#[test]
+fn an_instruction_decoded_beforehand_needs_its_words_no_more(rt: HostRuntime) -> Result<(), Fail> {
+    for (code, size, [pc, r12, r13, word]) in DECODED {
+        let mut memory = board(rt.alloc(), code)?;
+        let ready = fetch(START, &memory);
+        put_all(&mut memory, &[(START, 0), (START + 2, 0), (START + 4, 0)]);
+        assert_eq!(rt; fetch(START, &memory), None);
+        let mut regs = registers(0, 0x1111, 0x2222);
+        if let Some(ready) = ready {
+            assert_eq!(rt; ready.len, size);
+            assert_eq!(rt; execute(ready, &mut regs, &mut memory), Stepped::Next);
+        }
+        let found = regs.r;
+        assert_eq!(rt;
+            [found[0], found[12], found[13], memory.get(0x4000)],
+            [pc, r12, r13, word]
+        );
     }
     Ok(())
 }

@@ -2,10 +2,13 @@
 use Rattle.std.proofs.Common.{◌≡◌, ℕ, zero, suc, ◌+◌, ◌-◌, ◌<◌, ◌≤◌, refl, sym, ap, ◌∙◌, subst, arith, Bool, true, false}
 use Rattle.core430.specs.Bytes.{byte_at}
 use Rattle.core430.specs.Step.{State, Outcome, Next, Service, Wild, step}
-use Rattle.core430.specs.Uses.{step_changes, AreWords, IsLeft, LeavesWords}
+use Rattle.core430.specs.Uses.{step_changes, joined, SameOn, EndAlike, AreWords, IsLeft, LeavesWords}
+use Rattle.core430.proofs.Truths.{or-left}
+use Rattle.core430.proofs.SameBytes.{same-fewer}
+use Rattle.core430.proofs.Depends.{step_depends}
 use Rattle.core430.proofs.Frame.{step_left}
 use Rattle.core430.proofs.WordSizes.{step_words}
-use Rattle.run430.specs.Run.{then_run, run, Touches, StepTo, Runs, SteadyRuns, AnyByte}
+use Rattle.run430.specs.Run.{then_run, run, Touches, StepTo, Runs, SteadyRuns, AnyByte, Named}
 use Rattle.run430.specs.Routine.{Goes}
 
 pub Runs-append : (denied : ℕ → Bool) (R W : ℕ → Type 0) (n k : ℕ) (s t u : State) → Runs denied R W n s t → Runs denied R W k t u → Runs denied R W (n + k) s u
@@ -103,6 +106,19 @@ Runs-kept denied R W zero s t b hr hm h k = ap (λ (x : State). byte_at x.memory
 Runs-kept denied R W (suc n) s t b hr hm h k =
     let w = step-words denied R W s h.0 hr hm h.1 in
     Runs-kept denied R W n h.0 t b w.0 w.1 h.2 k ∙ step-kept denied R W s h.0 b hm h.1 k
+
+-- ---- a run depends on no byte but those that it uses
+
+pub Runs-depends : (denied p : ℕ → Bool) (W : ℕ → Type 0) (n : ℕ) (s t : State) (k : ℕ → ℕ) → Runs denied (Named p) W n s t → SameOn p s.memory k → (m : ℕ → ℕ) × (run denied n (record { regs = s.regs; memory = k }) ≡ Next (record { regs = t.regs; memory = m })) × SameOn p t.memory m
+Runs-depends denied p W zero s t k h same =
+    (k, ap (λ (x : State). Next (record { regs = x.regs; memory = k })) h, subst (λ (x : State). SameOn p x.memory k) h same)
+Runs-depends denied p W (suc n) s t k h same =
+    let a = subst (λ (o : Outcome). EndAlike (joined p (step_changes s)) o (step denied (record { regs = s.regs; memory = k }))) h.1.goes (step_depends denied s p k same h.1.touches.0) in
+    let more = Runs-depends denied p W n h.0 t a.0.memory h.2 (same-fewer _ p _ _ a.3 (λ b e. or-left (p b) _ e)) in (
+      more.0,
+      ap (λ (o : Outcome). then_run o (run denied n)) a.1 ∙ ap (λ (r : ℕ → ℕ). run denied n (record { regs = r; memory = a.0.memory })) (sym a.2) ∙ more.1,
+      more.2,
+    )
 
 -- ---- runs that keep SP from rising
 

@@ -4,16 +4,9 @@ use Rattle.std.proofs.lemmas.Bool.{ne_eqb, eq-eqb, cases_eq}
 use Rattle.std.proofs.Math.Path.{fun_ext}
 use Rattle.std.specs.Prelude.{nat_eq, if◌then◌else◌}
 use Rattle.base16.specs.Memory.{put}
+use Rattle.base16.proofs.Writes.{put-other}
 use Rattle.core430.specs.Registers.{set_reg}
 use Rattle.run430.specs.Code.{Agrees}
-
-pub put-same : (m : ℕ → ℕ) (a b v : ℕ) → b ≡ a → put m a v b ≡ v
-unfolding put
-put-same m a b v e = simp (eq-eqb b a e)
-
-pub put-other : (m : ℕ → ℕ) (a b v : ℕ) → b ≢ a → put m a v b ≡ m b
-unfolding put
-put-other m a b v e = simp (ne_eqb b a e)
 
 pub set_reg-twice : (f : ℕ → ℕ) (n a b : ℕ) → set_reg (set_reg f n a) n b ≡ set_reg f n b
 set_reg-twice f n a b = fun_ext (λ k. twice (nat_eq k n) b a (f k))
@@ -35,7 +28,7 @@ set_reg-other f n k v d = simp (ne_eqb k n d)
 
 -- code stays where it is when a word elsewhere is written
 pub Agrees-put : (c : ℕ → ℕ) (lo hi : ℕ) (m : ℕ → ℕ) (a v : ℕ) → Agrees c lo hi m → (a < lo) ⊎ (hi ≤ a) → Agrees c lo hi (put m a v)
-Agrees-put c lo hi m a v g o = record { at = λ b l h. let ne : b ≢ a = omega (arith, o) in put-other m a b v ne ∙ g.at b l h }
+Agrees-put c lo hi m a v g o = record { at = λ b l h. let ne : b ≢ a = omega (arith, o) in put-other m a v b ne ∙ g.at b l h }
 
 -- a memory agrees with itself
 pub Agrees-self : (m : ℕ → ℕ) (lo hi : ℕ) → Agrees m lo hi m

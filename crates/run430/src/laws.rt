@@ -3,8 +3,8 @@ ghost use Rattle.isa430.specs.declared.instr.Instr.{Instr};
 ghost use Rattle.isa430.specs.Table.{WordsAt};
 ghost use Rattle.core430.specs.Bytes.{byte_at};
 ghost use Rattle.core430.specs.Step.{State, Next};
-ghost use Rattle.core430.specs.Uses.{AreWords};
-ghost use Rattle.run430.specs.Run.{run as run_of, Runs, AnyByte, Named, then_run};
+ghost use Rattle.core430.specs.Uses.{AreWords, SameOn};
+ghost use Rattle.run430.specs.Run.{run as run_of, Runs, SteadyRuns, AnyByte, Named, then_run};
 ghost use Rattle.run430.specs.Code.{Placed, are_valid, words_of_code};
 
 /// The relation between two states that a run of so many steps leads from one to the other holds just where the steps
@@ -16,9 +16,17 @@ pub fn run_is_steps()
     ensures kept { (denied uses changes : ℕ → Bool) → (n : ℕ) → (s t : State) → (b : ℕ) → AreWords s.regs → AreWords s.memory → Runs denied (Named uses) (Named changes) n s t → changes b ≡ false → byte_at t.memory b ≡ byte_at s.memory b }
 {}
 
-/// Runs one after another are one run.
+/// A run depends on no byte of memory but those that it uses: over a memory that agrees on these it leads to the same
+/// registers, and the memories then agree on these bytes again.
+pub fn runs_depend_on_uses()
+    ensures { (denied uses changes : ℕ → Bool) → (n : ℕ) → (s t : State) → (k : ℕ → ℕ) → Runs denied (Named uses) (Named changes) n s t → SameOn uses s.memory k → (m : ℕ → ℕ) × (run_of denied n (record { regs = s.regs; memory = k }) ≡ Next (record { regs = t.regs; memory = m })) × SameOn uses t.memory m }
+{}
+
+/// Runs one after another are one run. A run that keeps SP at or below an address is a run.
 pub fn runs_compose()
     ensures relation { (denied uses changes : ℕ → Bool) → (n k : ℕ) → (s t u : State) → Runs denied (Named uses) (Named changes) n s t → Runs denied (Named uses) (Named changes) k t u → Runs denied (Named uses) (Named changes) (n + k) s u }
+    ensures steady { (denied uses changes : ℕ → Bool) → (top n : ℕ) → (s t : State) → SteadyRuns denied (Named uses) (Named changes) top n s t → Runs denied (Named uses) (Named changes) n s t }
+    ensures steady_relation { (denied uses changes : ℕ → Bool) → (top n k : ℕ) → (s t u : State) → SteadyRuns denied (Named uses) (Named changes) top n s t → SteadyRuns denied (Named uses) (Named changes) top k t u → SteadyRuns denied (Named uses) (Named changes) top (n + k) s u }
     ensures function { (denied : ℕ → Bool) → (n k : ℕ) → (s : State) → run_of denied (n + k) s ≡ then_run (run_of denied n s) (run_of denied k) }
 {}
 

@@ -5,5 +5,5 @@
 mod laws;
 mod running;
 
-pub use laws::{code_is_placed, run_is_steps, runs_compose};
+pub use laws::{code_is_placed, run_is_steps, runs_compose, runs_depend_on_uses};
 pub use running::run;
