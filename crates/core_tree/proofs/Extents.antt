@@ -23,21 +23,25 @@ layout-Void known = search (rules, the_lemmas)
 pub layout-Num : (known : List Layout) (t : IntType) → layout_in known (ty.Num t) ≡ integer t
 layout-Num known t = search (rules, the_lemmas)
 
-pub layout-Array-size : (known : List Layout) (of : Ty) (n : ℕ) → (layout_in known (ty.Array of n)).size ≡ n * (layout_in known of).size
+pub layout-Array-size : (known : List Layout) (of : Ty) (n : ℕ)
+    → (layout_in known (ty.Array of n)).size ≡ n * (layout_in known of).size
 layout-Array-size known of n = search (rules, the_lemmas)
 
-pub layout-Array-even : (known : List Layout) (of : Ty) (n : ℕ) → (layout_in known (ty.Array of n)).even ≡ (layout_in known of).even
+pub layout-Array-even : (known : List Layout) (of : Ty) (n : ℕ)
+    → (layout_in known (ty.Array of n)).even ≡ (layout_in known of).even
 layout-Array-even known of n = search (rules, the_lemmas)
 
 pub layout-Struct : (known : List Layout) (tag : ℕ) → layout_in known (ty.Struct tag) ≡ get_or known tag nothing
 layout-Struct known tag = search (rules, the_lemmas)
 
-pub layout_of_struct : (known : List Layout) (t : Ty) (tag : ℕ) → t ≡ ty.Struct tag → layout_in known t ≡ get_or known tag nothing
+pub layout_of_struct : (known : List Layout) (t : Ty) (tag : ℕ) → t ≡ ty.Struct tag
+    → layout_in known t ≡ get_or known tag nothing
 layout_of_struct known t tag e = rw e (layout-Struct known tag)
 
 -- ---- rows of things
 
-pub with_last : (before : Layout) (ls : List Layout) (l : Layout) → with_members before (ls ++ l ∷ []) ≡ with_member (with_members before ls) l
+pub with_last : (before : Layout) (ls : List Layout) (l : Layout)
+    → with_members before (ls ++ l ∷ []) ≡ with_member (with_members before ls) l
 with_last before [] l = refl
 with_last before (k ∷ ls) l = with_last (with_member before k) ls l
 
@@ -109,7 +113,8 @@ told_closed_size : (n : ℕ) (even : Bool) → capped (aligned even (capped n)) 
 told_closed_size n true = omega arith
 told_closed_size n false = omega arith
 
-pub told_closed : (a : Layout) (x z : Extent) → x ≡ told a → z.size ≡ capped (aligned x.even x.size) → z.even ≡ x.even → z ≡ told (closed a)
+pub told_closed : (a : Layout) (x z : Extent) → x ≡ told a → z.size ≡ capped (aligned x.even x.size) → z.even ≡ x.even
+    → z ≡ told (closed a)
 told_closed a x z e g h = same_extent z _ (g ∙ rw e (told_closed_size a.size a.even)) (h ∙ rw e refl)
 
 -- so many of what stands in a type make the type
@@ -120,7 +125,8 @@ pub record Times (count : ℕ) (inner whole : Layout) : Type 0 where
 pub times_once : (whole : Layout) → Times 1 whole whole
 times_once whole = record { size = omega arith; even = refl }
 
-pub times_more : (count more next : ℕ) (of inner whole : Layout) → Times count inner whole → inner.size ≡ more * of.size → inner.even ≡ of.even
+pub times_more : (count more next : ℕ) (of inner whole : Layout) → Times count inner whole → inner.size ≡ more * of.size
+    → inner.even ≡ of.even
     → next ≡ capped (count * more) → Times next of whole
 times_more count more next of inner whole t g h e = record {
   size = rw (e, capped_factor (count * more) of.size, mul_assoc count more of.size, ← g) t.size;
@@ -133,9 +139,11 @@ times_told count inner whole x z t e g h = same_extent z _
     (g ∙ (rw (e, capped_factor_right count inner.size) t.size))
     (h ∙ (rw e t.even))
 
-pub times_array : (known : List Layout) (t of inner : Ty) (count more next : ℕ) (whole : Layout) → Times count (layout_in known t) whole
+pub times_array : (known : List Layout) (t of inner : Ty) (count more next : ℕ) (whole : Layout)
+    → Times count (layout_in known t) whole
     → t ≡ ty.Array of more → inner ≡ of → next ≡ capped (count * more) → Times next (layout_in known inner) whole
-times_array known t of inner count more next whole times e i n = rw i (times_more count more next (layout_in known of) (layout_in known t) whole times
+times_array known t of inner count more next whole times e i n =
+    rw i (times_more count more next (layout_in known of) (layout_in known t) whole times
     (rw e (layout-Array-size known of more)) (rw e (layout-Array-even known of more)) n)
 
 -- ---- the table of structs
@@ -150,9 +158,11 @@ pub known_at : (structs : List Struct) (known : List Extent) (tag at : ℕ) → 
     → get_or known at (told nothing) ≡ told (get_or (layouts structs) tag nothing)
 known_at structs known tag at e small h = rw h (table_at structs known tag e small)
 
-pub known_past : (structs : List Struct) (known : List Extent) (tag at : ℕ) → known ≡ table structs → tag < 65536 → at ≡ tag → length known ≤ at
+pub known_past : (structs : List Struct) (known : List Extent) (tag at : ℕ) → known ≡ table structs → tag < 65536 → at ≡ tag
+    → length known ≤ at
     → told nothing ≡ told (get_or (layouts structs) tag nothing)
-known_past structs known tag at e small h past = sym (get_or_past known at (told nothing) past) ∙ known_at structs known tag at e small h
+known_past structs known tag at e small h past =
+    sym (get_or_past known at (told nothing) past) ∙ known_at structs known tag at e small h
 
 -- ---- the members of a struct, one more
 
@@ -176,18 +186,21 @@ pub length-layouts : (ss : List Struct) → length (layouts ss) ≡ length ss
 length-layouts ss = length-layouts_from [] ss ∙ (omega arith)
 
 -- the table of the first structs is whole
-pub table_front : (ss : List Struct) (known : List Extent) (i : ℕ) → i < 65536 → known ≡ map told (layouts (take i ss)) → known ≡ table (take i ss)
+pub table_front : (ss : List Struct) (known : List Extent) (i : ℕ) → i < 65536 → known ≡ map told (layouts (take i ss))
+    → known ≡ table (take i ss)
 unfolding table
 table_front ss known i small e = e ∙ sym (take_all 65536 (map told (layouts (take i ss)))
     (rw (length-map (layouts (take i ss)) told) (rw (length-layouts (take i ss)) (omega (arith, length-take i ss)))))
 
-layouts_kept : (known : List Layout) (ss : List Struct) (n : ℕ) → n ≤ length known → take n (layouts_from known ss) ≡ take n known
+layouts_kept : (known : List Layout) (ss : List Struct) (n : ℕ) → n ≤ length known
+    → take n (layouts_from known ss) ≡ take n known
 layouts_kept known [] n h = refl
 layouts_kept known (s ∷ ss) n h =
     layouts_kept (known ++ struct_layout known s ∷ []) ss n (rw (length-append known (struct_layout known s ∷ [])) (omega arith))
     ∙ take-append-le n known (struct_layout known s ∷ []) h
 
-layouts-append : (known : List Layout) (ss more : List Struct) → layouts_from known (ss ++ more) ≡ layouts_from (layouts_from known ss) more
+layouts-append : (known : List Layout) (ss more : List Struct)
+    → layouts_from known (ss ++ more) ≡ layouts_from (layouts_from known ss) more
 layouts-append known [] more = refl
 layouts-append known (s ∷ ss) more = layouts-append (known ++ struct_layout known s ∷ []) ss more
 
@@ -205,13 +218,15 @@ table_by ss known n m e k =
     let short : n ≡ min m (length (map told (layouts ss))) = rw (length-map (layouts ss) told) (rw (length-layouts ss) (omega arith)) in
     k ∙ ap (map told) (sym (layouts_front ss n (omega arith))) ∙ sym (take-map told n (layouts ss)) ∙ (rw short (take_min m (map told (layouts ss))))
 
-pub table_whole : (ss : List Struct) (known : List Extent) (n : ℕ) → n ≡ min (length ss) 65536 → known ≡ map told (layouts (take n ss)) → known ≡ table ss
+pub table_whole : (ss : List Struct) (known : List Extent) (n : ℕ) → n ≡ min (length ss) 65536
+    → known ≡ map told (layouts (take n ss)) → known ≡ table ss
 unfolding table
 table_whole ss known n e k = table_by ss known n 65536 e k
 
 -- ---- turns of the loops
 
-pub struct_turn : (known : List Layout) (ms items : List Member) (i : ℕ) (m : Member) (sum part next : Extent) → items ≡ ms → i < length items → m ≡ get_or items i m
+pub struct_turn : (known : List Layout) (ms items : List Member) (i : ℕ) (m : Member) (sum part next : Extent) → items ≡ ms
+    → i < length items → m ≡ get_or items i m
     → sum ≡ told (with_members nothing (member_layouts known (take i ms))) → part ≡ told (layout_in known m.ty)
     → next.size ≡ capped (aligned part.even sum.size + part.size) → next.even ≡ (sum.even || part.even)
     → next ≡ told (with_members nothing (member_layouts known (take (i + 1) ms)))
@@ -220,14 +235,16 @@ struct_turn known ms items i m sum part next e h is s p g f =
     let lt : i < length ms = rw (← e) h in
     rw (members_turn known ms i m lt) (told_with (with_members nothing (member_layouts known (take i ms))) (layout_in known (get_or ms i m).ty) sum part next s (p ∙ ap (λ (x : Member). told (layout_in known x.ty)) here) g f)
 
-pub fill_turn : (ss : List Struct) (known : List Extent) (i : ℕ) (s : Struct) (e : Extent) → i < length known → i < length ss → s ≡ get_or ss i s
+pub fill_turn : (ss : List Struct) (known : List Extent) (i : ℕ) (s : Struct) (e : Extent) → i < length known → i < length ss
+    → s ≡ get_or ss i s
     → take i known ≡ map told (layouts (take i ss)) → e ≡ told (struct_layout (layouts (take i ss)) s)
     → take (i + 1) (set known i e) ≡ map told (layouts (take (i + 1) ss))
 fill_turn ss known i s e h k is t w =
     rw (take_more_set known i e h, layouts_turn ss i s k, map-append told (layouts (take i ss)) (struct_layout (layouts (take i ss)) (get_or ss i s) ∷ []), t)
     (ap (λ (x : Extent). map told (layouts (take i ss)) ++ x ∷ []) (w ∙ ap (λ (x : Struct). told (struct_layout (layouts (take i ss)) x)) is))
 
-pub fill_end : (ss : List Struct) (known : List Extent) (i : ℕ) → length known ≡ min (length ss) 65536 → length known ≤ i → i ≤ length known
+pub fill_end : (ss : List Struct) (known : List Extent) (i : ℕ) → length known ≡ min (length ss) 65536 → length known ≤ i
+    → i ≤ length known
     → take i known ≡ map told (layouts (take i ss)) → known ≡ table ss
 fill_end ss known i e h k t =
     table_whole ss known i (let same : i ≡ length known = omega arith in same ∙ e) (sym (take_all i known h) ∙ t)
@@ -251,7 +268,8 @@ offset_past known ms n sum h s =
 
 -- ---- objects side by side
 
-pub row_turn : (known : List Layout) (before ts : List Ty) (i : ℕ) (t : Ty) (sum part next : Extent) → i < length ts → t ≡ get_or ts i t
+pub row_turn : (known : List Layout) (before ts : List Ty) (i : ℕ) (t : Ty) (sum part next : Extent) → i < length ts
+    → t ≡ get_or ts i t
     → sum ≡ told (with_members nothing (map (layout_in known) (before ++ take i ts))) → part ≡ told (layout_in known t)
     → next.size ≡ capped (aligned part.even sum.size + part.size) → next.even ≡ (sum.even || part.even)
     → next ≡ told (with_members nothing (map (layout_in known) (before ++ take (i + 1) ts)))

@@ -1,5 +1,6 @@
 mod Calls
 mod Extents
+mod Laying
 pub mod Levels
 mod StatementSums
 mod Sums

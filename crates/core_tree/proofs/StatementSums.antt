@@ -14,18 +14,22 @@ use Rattle.core_tree.specs.Nodes.{expr_nodes, place_nodes, stmt_kind_nodes, stmt
 capped_pair : (a b : ℕ) → capped_cost (capped_cost a + capped_cost b) ≡ capped_cost (a + b)
 capped_pair a b = omega arith
 
-capped_row : (a row b rest under : ℕ) → row ≡ capped_cost a → b ≡ capped_cost rest → under ≡ capped_cost (row + b) → under ≡ capped_cost (1 * a + rest)
+capped_row : (a row b rest under : ℕ) → row ≡ capped_cost a → b ≡ capped_cost rest → under ≡ capped_cost (row + b)
+    → under ≡ capped_cost (1 * a + rest)
 capped_row a row b rest under e f g = omega arith
 
 -- ---- statements side by side
 
-side_by_side : (all : List Stmt) (inside : Bool) → map (λ (s : Bool → ℕ). s inside) (map (stmt_rows each) all) ≡ map (λ s. stmt_rows each s inside) all
+side_by_side : (all : List Stmt) (inside : Bool)
+    → map (λ (s : Bool → ℕ). s inside) (map (stmt_rows each) all) ≡ map (λ s. stmt_rows each s inside) all
 side_by_side all inside = map-map (λ (s : Bool → ℕ). s inside) (stmt_rows each) all
 
-labels_fused : (groups : List Group) → map (λ (g : Grouped). g.labels) (map (grouped each) groups) ≡ map (λ g. (grouped each g).labels) groups
+labels_fused : (groups : List Group)
+    → map (λ (g : Grouped). g.labels) (map (grouped each) groups) ≡ map (λ g. (grouped each g).labels) groups
 labels_fused groups = map-map (λ (g : Grouped). g.labels) (grouped each) groups
 
-rows_fused : (groups : List Group) (inside : Bool) → map (λ (g : Grouped). g.rows inside) (map (grouped each) groups) ≡ map (λ g. (grouped each g).rows inside) groups
+rows_fused : (groups : List Group) (inside : Bool)
+    → map (λ (g : Grouped). g.rows inside) (map (grouped each) groups) ≡ map (λ g. (grouped each g).rows inside) groups
 rows_fused groups inside = map-map (λ (g : Grouped). g.rows inside) (grouped each) groups
 
 -- ---- a block
@@ -52,16 +56,19 @@ made_rows-Switch on groups inside node = search (rules, the_lemmas)
 pub rows-Switch : (on : Expr) (groups : List Group) (inside : Bool) (node : ℕ)
     → stmt_kind_rows each (k.Switch on groups) inside node
     ≡ 1 * (24 + 20 * total (map (λ g. (grouped each g).labels) groups)) + (expr_rows each on + total (map (λ g. (grouped each g).rows inside) groups))
-rows-Switch on groups inside node = made_rows-Switch on groups inside node ∙ (rw (labels_fused groups, rows_fused groups inside) refl)
+rows-Switch on groups inside node =
+    made_rows-Switch on groups inside node ∙ (rw (labels_fused groups, rows_fused groups inside) refl)
 
-pub nodes-Switch : (on : Expr) (groups : List Group) → stmt_kind_nodes (k.Switch on groups) ≡ 1 + (expr_nodes on + total (map group_nodes groups))
+pub nodes-Switch : (on : Expr) (groups : List Group)
+    → stmt_kind_nodes (k.Switch on groups) ≡ 1 + (expr_nodes on + total (map group_nodes groups))
 nodes-Switch on groups = search (rules, the_lemmas)
 
 made_grouped-rows : (g : Group) (inside : Bool)
     → (grouped each g).rows inside ≡ total (map (λ (s : Bool → ℕ). s inside) (map (stmt_rows each) (out-Group g).body))
 made_grouped-rows g inside = search (rules, the_lemmas)
 
-pub grouped-rows : (g : Group) (inside : Bool) → (grouped each g).rows inside ≡ total (map (λ s. stmt_rows each s inside) (out-Group g).body)
+pub grouped-rows : (g : Group) (inside : Bool)
+    → (grouped each g).rows inside ≡ total (map (λ s. stmt_rows each s inside) (out-Group g).body)
 grouped-rows g inside = made_grouped-rows g inside ∙ (rw (side_by_side (out-Group g).body inside) refl)
 
 pub grouped-labels : (g : Group) → (grouped each g).labels ≡ length (out-Group g).labels
@@ -96,14 +103,16 @@ height-Expires names body caught = search (rules, the_lemmas)
 -- ---- what a call makes of these
 
 pub cost_Block : (s : Stmt) (all shown : List Stmt) (inside : Bool) (sum under : ℕ) → s.kind ≡ k.Block all → shown ≡ all
-    → sum ≡ capped_cost (total (map (λ x. stmt_rows each x inside) shown)) → under ≡ capped_cost (0 + sum) → under ≡ capped_cost (stmt_rows each s inside)
+    → sum ≡ capped_cost (total (map (λ x. stmt_rows each x inside) shown)) → under ≡ capped_cost (0 + sum)
+    → under ≡ capped_cost (stmt_rows each s inside)
 cost_Block s all shown inside sum under is e made got =
     let whole : stmt_rows each s inside ≡ 1 * 0 + total (map (λ x. stmt_rows each x inside) all) =
     ap (λ (x : StmtKind). stmt_kind_rows each x inside s.node) is ∙ rows-Block all inside s.node in
     let sum_is : sum ≡ capped_cost (total (map (λ x. stmt_rows each x inside) all)) = rw (← e) made in
     rw whole (capped_row 0 0 sum (total (map (λ x. stmt_rows each x inside) all)) under refl sum_is got)
 
-pub cost_Switch : (s : Stmt) (on : Expr) (groups shown listed : List Group) (inside : Bool) (test sum both row under : ℕ) → s.kind ≡ k.Switch on groups
+pub cost_Switch : (s : Stmt) (on : Expr) (groups shown listed : List Group) (inside : Bool) (test sum both row under : ℕ)
+    → s.kind ≡ k.Switch on groups
     → shown ≡ groups → listed ≡ groups → test ≡ capped_cost (expr_rows each on)
     → sum ≡ capped_cost (total (map (λ g. (grouped each g).rows inside) shown)) → both ≡ capped_cost (test + sum)
     → row ≡ capped_cost (24 + 20 * total (map (λ g. (grouped each g).labels) listed)) → under ≡ capped_cost (row + both)
@@ -121,8 +130,10 @@ cost_Switch s on groups shown listed inside test sum both row under is e f test_
 pub cost_Expires : (s : Stmt) (names listed : List Place) (body first caught second : List Stmt) (inside : Bool) (a b c bc abc row under : ℕ)
     → s.kind ≡ k.Expires names body caught → listed ≡ names → first ≡ body → second ≡ caught
     → a ≡ capped_cost (total (map (place_rows each) listed)) → b ≡ capped_cost (total (map (λ x. stmt_rows each x true) first))
-    → c ≡ capped_cost (total (map (λ x. stmt_rows each x inside) second)) → bc ≡ capped_cost (b + c) → abc ≡ capped_cost (a + bc)
-    → row ≡ capped_cost (72 + 6 * length names) → under ≡ capped_cost (row + abc) → under ≡ capped_cost (stmt_rows each s inside)
+    → c ≡ capped_cost (total (map (λ x. stmt_rows each x inside) second)) → bc ≡ capped_cost (b + c)
+    → abc ≡ capped_cost (a + bc)
+    → row ≡ capped_cost (72 + 6 * length names) → under ≡ capped_cost (row + abc)
+    → under ≡ capped_cost (stmt_rows each s inside)
 cost_Expires s names listed body first caught second inside a b c bc abc row under is e f g a_is b_is c_is bc_is abc_is own got =
     let one = total (map (place_rows each) names) in
     let two = total (map (λ (x : Stmt). stmt_rows each x true) body) in

@@ -169,7 +169,8 @@ module _ (w : ℕ → ℕ) where
   stmt_row_parts StmtKind-F.Continue inside = []
   stmt_row_parts (StmtKind-F.Return e) inside = optional expr_rows e ∷ []
   stmt_row_parts (StmtKind-F.Stamped place value) inside = place_rows place ∷ expr_rows value ∷ []
-  stmt_row_parts (StmtKind-F.Timely place _ one other) inside = place_rows place ∷ one inside ∷ optional (λ s. s inside) other ∷ []
+  stmt_row_parts (StmtKind-F.Timely place _ one other) inside =
+      place_rows place ∷ one inside ∷ optional (λ s. s inside) other ∷ []
   stmt_row_parts (StmtKind-F.Expires names body caught) inside =
       total (map place_rows names) ∷ total (map (λ s. s true) body) ∷ total (map (λ s. s inside) caught) ∷ []
   stmt_row_parts (StmtKind-F.Declare _ init) inside = map init_rows init

@@ -148,34 +148,50 @@ mutual
         → (is_const p.kind ≡ true → readonly ≡ true) → IsUntimed s p → HasType s (k.Address p) (ty.Pointer t readonly)
     integer_converted : (e : Expr) (from to : IntType) → IsExpr s e (ty.Num from) → HasType s (k.Convert e) (ty.Num to)
     pointer_converted : (e : Expr) (to : Ty) → IsExpr s e (ty.Pointer to false) → HasType s (k.Convert e) (ty.Pointer to true)
-    signed : (o : UnaryOp) (e : Expr) (t : IntType) → is_not o ≡ false → IsComputed t → IsExpr s e (ty.Num t) → HasType s (k.Unary o e) (ty.Num t)
+    signed : (o : UnaryOp) (e : Expr) (t : IntType) → is_not o ≡ false → IsComputed t → IsExpr s e (ty.Num t)
+        → HasType s (k.Unary o e) (ty.Num t)
     negated : (e : Expr) (t : Ty) → IsExpr s e t → is_scalar t ≡ true → HasType s (k.Unary un.Not e) (ty.Num Int)
-    binary : (o : BinaryOp) (at : IntType) (a b : Expr) → is_shift o ≡ false → IsComputed at → IsExpr s a (ty.Num at) → IsExpr s b (ty.Num at)
+    binary : (o : BinaryOp) (at : IntType) (a b : Expr) → is_shift o ≡ false → IsComputed at → IsExpr s a (ty.Num at)
+        → IsExpr s b (ty.Num at)
         → HasType s (k.Binary o at a b) (ty.Num (result_in o at))
-    shift : (o : BinaryOp) (at by : IntType) (a b : Expr) → is_shift o ≡ true → IsComputed at → IsComputed by → IsExpr s a (ty.Num at) → IsExpr s b (ty.Num by)
+    shift : (o : BinaryOp) (at by : IntType) (a b : Expr) → is_shift o ≡ true → IsComputed at → IsComputed by
+        → IsExpr s a (ty.Num at) → IsExpr s b (ty.Num by)
         → HasType s (k.Binary o at a b) (ty.Num at)
     pointer_plus : (minus : Bool) (a b : Expr) (to : Ty) (readonly : Bool) (by : IntType) → Complete s.core to
-        → IsExpr s a (ty.Pointer to readonly) → IsExpr s b (ty.Num by) → HasType s (k.PointerPlus minus a b) (ty.Pointer to readonly)
+        → IsExpr s a (ty.Pointer to readonly) → IsExpr s b (ty.Num by)
+        → HasType s (k.PointerPlus minus a b) (ty.Pointer to readonly)
     plus_pointer : (a b : Expr) (to : Ty) (readonly : Bool) (by : IntType) → Complete s.core to
-        → IsExpr s a (ty.Num by) → IsExpr s b (ty.Pointer to readonly) → HasType s (k.PointerPlus false a b) (ty.Pointer to readonly)
-    difference : (a b : Expr) (to : Ty) (r q : Bool) → Complete s.core to → IsExpr s a (ty.Pointer to r) → IsExpr s b (ty.Pointer to q)
+        → IsExpr s a (ty.Num by) → IsExpr s b (ty.Pointer to readonly)
+        → HasType s (k.PointerPlus false a b) (ty.Pointer to readonly)
+    difference : (a b : Expr) (to : Ty) (r q : Bool) → Complete s.core to → IsExpr s a (ty.Pointer to r)
+        → IsExpr s b (ty.Pointer to q)
         → HasType s (k.Difference a b) (ty.Num Int)
     -- only `==` and `!=` take a constant 0 beside a pointer
     compared : (o : BinaryOp) (a b : Expr) (to : Ty) (r q : Bool) → is_comparison o ≡ true
-        → (is_order o ≡ true → (is_constant a.kind || is_constant b.kind) ≡ false) → IsExpr s a (ty.Pointer to r) → IsExpr s b (ty.Pointer to q)
+        → (is_order o ≡ true → (is_constant a.kind || is_constant b.kind) ≡ false) → IsExpr s a (ty.Pointer to r)
+        → IsExpr s b (ty.Pointer to q)
         → HasType s (k.ComparePointers o a b) (ty.Num Int)
-    both : (a b : Expr) (t u : Ty) → IsExpr s a t → IsExpr s b u → is_scalar t ≡ true → is_scalar u ≡ true → HasType s (k.And a b) (ty.Num Int)
-    either : (a b : Expr) (t u : Ty) → IsExpr s a t → IsExpr s b u → is_scalar t ≡ true → is_scalar u ≡ true → HasType s (k.Or a b) (ty.Num Int)
-    integer_branches : (test a b : Expr) (t : Ty) (at : IntType) → IsExpr s test t → is_scalar t ≡ true → IsComputed at → IsExpr s a (ty.Num at) → IsExpr s b (ty.Num at)
+    both : (a b : Expr) (t u : Ty) → IsExpr s a t → IsExpr s b u → is_scalar t ≡ true → is_scalar u ≡ true
+        → HasType s (k.And a b) (ty.Num Int)
+    either : (a b : Expr) (t u : Ty) → IsExpr s a t → IsExpr s b u → is_scalar t ≡ true → is_scalar u ≡ true
+        → HasType s (k.Or a b) (ty.Num Int)
+    integer_branches : (test a b : Expr) (t : Ty) (at : IntType) → IsExpr s test t → is_scalar t ≡ true → IsComputed at
+        → IsExpr s a (ty.Num at) → IsExpr s b (ty.Num at)
         → HasType s (k.Conditional test a b) (ty.Num at)
     pointer_branches : (test a b : Expr) (t to : Ty) (readonly : Bool) → IsExpr s test t → is_scalar t ≡ true
-        → IsExpr s a (ty.Pointer to readonly) → IsExpr s b (ty.Pointer to readonly) → HasType s (k.Conditional test a b) (ty.Pointer to readonly)
-    assigned : (p : Place) (v : Expr) (t : Ty) (marked : Bool) → IsStored s p t marked → IsExpr s v t → HasType s (k.Assign p v marked) t
-    updated : (o : BinaryOp) (at own : IntType) (p : Place) (v : Expr) (old marked : Bool) → is_shift o ≡ false → is_comparison o ≡ false
-        → balanced own at ≡ at → IsStored s p (ty.Num own) marked → IsExpr s v (ty.Num at) → HasType s (k.Update o (Some at) p v old marked) (ty.Num own)
+        → IsExpr s a (ty.Pointer to readonly) → IsExpr s b (ty.Pointer to readonly)
+        → HasType s (k.Conditional test a b) (ty.Pointer to readonly)
+    assigned : (p : Place) (v : Expr) (t : Ty) (marked : Bool) → IsStored s p t marked → IsExpr s v t
+        → HasType s (k.Assign p v marked) t
+    updated : (o : BinaryOp) (at own : IntType) (p : Place) (v : Expr) (old marked : Bool) → is_shift o ≡ false
+        → is_comparison o ≡ false
+        → balanced own at ≡ at → IsStored s p (ty.Num own) marked → IsExpr s v (ty.Num at)
+        → HasType s (k.Update o (Some at) p v old marked) (ty.Num own)
     shifted : (o : BinaryOp) (own by : IntType) (p : Place) (v : Expr) (old marked : Bool) → is_shift o ≡ true → IsComputed by
-        → IsStored s p (ty.Num own) marked → IsExpr s v (ty.Num by) → HasType s (k.Update o (Some (promoted own)) p v old marked) (ty.Num own)
-    moved : (o : BinaryOp) (to : Ty) (readonly : Bool) (by : IntType) (p : Place) (v : Expr) (old marked : Bool) → takes_pointer_integer o ≡ true
+        → IsStored s p (ty.Num own) marked → IsExpr s v (ty.Num by)
+        → HasType s (k.Update o (Some (promoted own)) p v old marked) (ty.Num own)
+    moved : (o : BinaryOp) (to : Ty) (readonly : Bool) (by : IntType) (p : Place) (v : Expr) (old marked : Bool)
+        → takes_pointer_integer o ≡ true
         → Complete s.core to → IsStored s p (ty.Pointer to readonly) marked → IsExpr s v (ty.Num by)
         → HasType s (k.Update o None p v old marked) (ty.Pointer to readonly)
     called : (n : ℕ) (f : Function) (args : List Expr) → slice_get s.core.functions n ≡ Some f → AreExprs s args f.params
@@ -195,13 +211,17 @@ mutual
     local : (n : ℕ) (t : Ty) → slice_get s.objects n ≡ Some t → HasPlaceType s (pk.Local n) t
     global : (n : ℕ) (g : Global) → slice_get s.core.globals n ≡ Some g → HasPlaceType s (pk.Global n) g.ty
     pointed : (e : Expr) (to : Ty) (readonly : Bool) → IsExpr s e (ty.Pointer to readonly) → HasPlaceType s (pk.Deref e) to
-    member : (p : Place) (tag n : ℕ) (m : Member) → IsPlace s p (ty.Struct tag) → slice_get (members_of s.core.structs tag) n ≡ Some m
+    member : (p : Place) (tag n : ℕ) (m : Member) → IsPlace s p (ty.Struct tag)
+        → slice_get (members_of s.core.structs tag) n ≡ Some m
         → HasPlaceType s (pk.Member p tag n) m.ty
-    element : (p : Place) (i : Expr) (of : Ty) (count : ℕ) (t : IntType) → IsPlace s p (ty.Array of count) → IsExpr s i (ty.Num t)
+    element : (p : Place) (i : Expr) (of : Ty) (count : ℕ) (t : IntType) → IsPlace s p (ty.Array of count)
+        → IsExpr s i (ty.Num t)
         → HasPlaceType s (pk.Element p i) of
-    pointer_at : (a b : Expr) (to : Ty) (readonly : Bool) (t : IntType) → Complete s.core to → IsExpr s a (ty.Pointer to readonly) → IsExpr s b (ty.Num t)
+    pointer_at : (a b : Expr) (to : Ty) (readonly : Bool) (t : IntType) → Complete s.core to
+        → IsExpr s a (ty.Pointer to readonly) → IsExpr s b (ty.Num t)
         → HasPlaceType s (pk.At a b) to
-    at_pointer : (a b : Expr) (to : Ty) (readonly : Bool) (t : IntType) → Complete s.core to → IsExpr s a (ty.Num t) → IsExpr s b (ty.Pointer to readonly)
+    at_pointer : (a b : Expr) (to : Ty) (readonly : Bool) (t : IntType) → Complete s.core to → IsExpr s a (ty.Num t)
+        → IsExpr s b (ty.Pointer to readonly)
         → HasPlaceType s (pk.At a b) to
 
   -- a place with this type
@@ -216,7 +236,8 @@ mutual
   -- expressions with these types
   pub data AreExprs (s : Scope) : List Expr → List Ty → Type 0 where
     no_exprs : AreExprs s [] []
-    one_more : (e : Expr) (t : Ty) (es : List Expr) (ts : List Ty) → IsExpr s e t → AreExprs s es ts → AreExprs s (e ∷ es) (t ∷ ts)
+    one_more : (e : Expr) (t : Ty) (es : List Expr) (ts : List Ty) → IsExpr s e t → AreExprs s es ts
+        → AreExprs s (e ∷ es) (t ∷ ts)
 
 -- an expression by itself is lawful where it has its own type
 abbrev pub LawfulExpr : Scope → Expr → Type 0

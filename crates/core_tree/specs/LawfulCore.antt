@@ -88,7 +88,8 @@ repeated (suc n) ts = ts ++ repeated n ts
 abbrev pub leaf_step : List (List Ty) → Ty-F Leaves → Leaves
 leaf_step known Ty-F.Void = record { whole = ty.Void; leaves = [] }
 leaf_step known (Ty-F.Num t) = record { whole = ty.Num t; leaves = ty.Num t ∷ [] }
-leaf_step known (Ty-F.Pointer to readonly) = record { whole = ty.Pointer to.whole readonly; leaves = ty.Pointer to.whole readonly ∷ [] }
+leaf_step known (Ty-F.Pointer to readonly) =
+    record { whole = ty.Pointer to.whole readonly; leaves = ty.Pointer to.whole readonly ∷ [] }
 leaf_step known (Ty-F.Array of count) = record { whole = ty.Array of.whole count; leaves = repeated count of.leaves }
 leaf_step known (Ty-F.Struct tag) = record { whole = ty.Struct tag; leaves = get_or known tag [] }
 
@@ -153,8 +154,10 @@ Initialised s t (i ∷ is) = AreInits s t (layout s.core.structs t).slots (scala
 pub data IsNamed (s : Scope) : Place → Type 0 where
   unchecked : (p : Place) → s.annotated ≡ false → IsPlace s p p.ty → IsNamed s p
   variable : (p : Place) (n : ℕ) (t : IntType) → IsPlace s p (ty.Num t) → p.kind ≡ pk.Global n → IsTimedScalar s p → IsNamed s p
-  indexed : (p of : Place) (i : Expr) (n : ℕ) (t : IntType) (count at : ℕ) → IsPlace s p (ty.Num t) → p.kind ≡ pk.Element of i → of.kind ≡ pk.Global n
-      → of.ty ≡ ty.Array (ty.Num t) count → i.kind ≡ k.Constant (pos at) → (s.annotated ≡ true → at < count) → IsTimedScalar s p → IsNamed s p
+  indexed : (p of : Place) (i : Expr) (n : ℕ) (t : IntType) (count at : ℕ) → IsPlace s p (ty.Num t)
+      → p.kind ≡ pk.Element of i → of.kind ≡ pk.Global n
+      → of.ty ≡ ty.Array (ty.Num t) count → i.kind ≡ k.Constant (pos at) → (s.annotated ≡ true → at < count)
+      → IsTimedScalar s p → IsNamed s p
 
 abbrev pub all_labels : List Group → List (Option ℤ)
 all_labels groups = joined (map (λ g. (out-Group g).labels) groups)
@@ -186,27 +189,40 @@ mutual
     expression : (x : Text) (e : Expr) → Lawful x.scope e → IsStmt x (sk.Expr e)
     block : (x : Text) (all : List Stmt) → AreStmts x all → IsStmt x (sk.Block all)
     if : (x : Text) (test : Expr) (one : Stmt) → IsTest x.scope test → IsStmt x one.kind → IsStmt x (sk.If test one None)
-    if_else : (x : Text) (test : Expr) (one other : Stmt) → IsTest x.scope test → IsStmt x one.kind → IsStmt x other.kind → IsStmt x (sk.If test one (Some other))
-    while : (x : Text) (test : Expr) (body : Stmt) → IsTest x.scope test → IsStmt (in_loop x) body.kind → IsStmt x (sk.While test body)
-    do_while : (x : Text) (body : Stmt) (test : Expr) → IsStmt (in_loop x) body.kind → IsTest x.scope test → IsStmt x (sk.Do body test)
-    for : (x : Text) (test step : Option Expr) (body : Stmt) → OnSome (IsTest x.scope) test → OnSome (Lawful x.scope) step → IsStmt (in_loop x) body.kind
+    if_else : (x : Text) (test : Expr) (one other : Stmt) → IsTest x.scope test → IsStmt x one.kind → IsStmt x other.kind
+        → IsStmt x (sk.If test one (Some other))
+    while : (x : Text) (test : Expr) (body : Stmt) → IsTest x.scope test → IsStmt (in_loop x) body.kind
+        → IsStmt x (sk.While test body)
+    do_while : (x : Text) (body : Stmt) (test : Expr) → IsStmt (in_loop x) body.kind → IsTest x.scope test
+        → IsStmt x (sk.Do body test)
+    for : (x : Text) (test step : Option Expr) (body : Stmt) → OnSome (IsTest x.scope) test → OnSome (Lawful x.scope) step
+        → IsStmt (in_loop x) body.kind
         → IsStmt x (sk.For None test step body)
-    for_first : (x : Text) (first : Stmt) (test step : Option Expr) (body : Stmt) → IsFirst first.kind → IsStmt x first.kind → OnSome (IsTest x.scope) test
+    for_first : (x : Text) (first : Stmt) (test step : Option Expr) (body : Stmt) → IsFirst first.kind → IsStmt x first.kind
+        → OnSome (IsTest x.scope) test
         → OnSome (Lawful x.scope) step → IsStmt (in_loop x) body.kind → IsStmt x (sk.For (Some first) test step body)
-    switch : (x : Text) (on : Expr) (groups : List Group) (t : IntType) → IsComputed t → IsExpr x.scope on (ty.Num t) → Apart (all_labels groups)
-        → Every (OnSome (λ n. is_value t n ≡ true)) (all_labels groups) → AreGroups (in_switch x) groups → IsStmt x (sk.Switch on groups)
+    switch : (x : Text) (on : Expr) (groups : List Group) (t : IntType) → IsComputed t → IsExpr x.scope on (ty.Num t)
+        → Apart (all_labels groups)
+        → Every (OnSome (λ n. is_value t n ≡ true)) (all_labels groups) → AreGroups (in_switch x) groups
+        → IsStmt x (sk.Switch on groups)
     break : (x : Text) → x.breaks ≡ true → IsStmt x sk.Break
     continue : (x : Text) → x.continues ≡ true → IsStmt x sk.Continue
     returned : (x : Text) → x.result ≡ ty.Void → IsFree x → IsStmt x (sk.Return None)
-    returned_value : (x : Text) (e : Expr) → IsExpr x.scope e x.result → is_scalar x.result ≡ true → IsFree x → IsStmt x (sk.Return (Some e))
-    stamped : (x : Text) (p : Place) (e : Expr) (t : Ty) → IsPlace x.scope p t → IsExpr x.scope e t → is_scalar t ≡ true → is_const p.kind ≡ false → IsTimedScalar x.scope p
+    returned_value : (x : Text) (e : Expr) → IsExpr x.scope e x.result → is_scalar x.result ≡ true → IsFree x
+        → IsStmt x (sk.Return (Some e))
+    stamped : (x : Text) (p : Place) (e : Expr) (t : Ty) → IsPlace x.scope p t → IsExpr x.scope e t → is_scalar t ≡ true
+        → is_const p.kind ≡ false → IsTimedScalar x.scope p
         → IsStmt x (sk.Stamped p e)
-    timely : (x : Text) (p : Place) (limit : ℕ) (one : Stmt) → IsAsked x p limit → IsStmt x one.kind → IsStmt x (sk.Timely p limit one None)
-    timely_else : (x : Text) (p : Place) (limit : ℕ) (one other : Stmt) → IsAsked x p limit → IsStmt x one.kind → IsStmt x other.kind
+    timely : (x : Text) (p : Place) (limit : ℕ) (one : Stmt) → IsAsked x p limit → IsStmt x one.kind
+        → IsStmt x (sk.Timely p limit one None)
+    timely_else : (x : Text) (p : Place) (limit : ℕ) (one other : Stmt) → IsAsked x p limit → IsStmt x one.kind
+        → IsStmt x other.kind
         → IsStmt x (sk.Timely p limit one (Some other))
-    expires : (x : Text) (p : Place) (names : List Place) (body caught : List Stmt) → Every (IsNamed x.scope) (p ∷ names) → IsFree x
+    expires : (x : Text) (p : Place) (names : List Place) (body caught : List Stmt) → Every (IsNamed x.scope) (p ∷ names)
+        → IsFree x
         → AreStmts (in_block x) body → AreStmts x caught → IsStmt x (sk.Expires (p ∷ names) body caught)
-    declared : (x : Text) (n : ℕ) (t : Ty) (init : List Init) → x.params ≤ n → slice_get x.scope.objects n ≡ Some t → Initialised x.scope t init
+    declared : (x : Text) (n : ℕ) (t : Ty) (init : List Init) → x.params ≤ n → slice_get x.scope.objects n ≡ Some t
+        → Initialised x.scope t init
         → IsStmt x (sk.Declare n init)
 
   pub data AreStmts : Text → List Stmt → Type 0 where
@@ -216,7 +232,8 @@ mutual
   -- each group has a label
   pub data AreGroups : Text → List Group → Type 0 where
     no_groups : (x : Text) → AreGroups x []
-    one_group : (x : Text) (g : Group) (more : List Group) → 1 ≤ length (out-Group g).labels → AreStmts x (out-Group g).body → AreGroups x more
+    one_group : (x : Text) (g : Group) (more : List Group) → 1 ≤ length (out-Group g).labels → AreStmts x (out-Group g).body
+        → AreGroups x more
         → AreGroups x (g ∷ more)
 
 -- ---- functions
@@ -286,7 +303,8 @@ rises n [] = Unit {0}
 rises n (g ∷ more) = (n ≤ g.before) × rises g.before more
 
 pub record IsBetween (core : Core) (g : Global) : Type 0 where
-  pub whole : (f : Function) (n : ℕ) → slice_get core.functions n ≡ Some f → f.node + 1 ≤ g.before → f.node + length (function_numbers f) ≤ g.before
+  pub whole : (f : Function) (n : ℕ) → slice_get core.functions n ≡ Some f → f.node + 1 ≤ g.before
+      → f.node + length (function_numbers f) ≤ g.before
   pub within : g.before ≤ length (core_numbers core)
 
 -- ---- structs

@@ -52,10 +52,12 @@ place_parts (PlaceKind-F.Element of index) = of ∷ index ∷ []
 place_parts (PlaceKind-F.At left right) = left ∷ right ∷ []
 
 abbrev pub expr_kind_nodes : ExprKind → ℕ
-expr_kind_nodes = fold-ExprKind ℕ ℕ ℕ ℕ (λ e. 1 + total (expr_parts e)) (λ p. 1 + total (place_parts p)) (λ e. e.kind) (λ p. p.kind)
+expr_kind_nodes =
+    fold-ExprKind ℕ ℕ ℕ ℕ (λ e. 1 + total (expr_parts e)) (λ p. 1 + total (place_parts p)) (λ e. e.kind) (λ p. p.kind)
 
 abbrev pub place_kind_nodes : PlaceKind → ℕ
-place_kind_nodes = fold-PlaceKind ℕ ℕ ℕ ℕ (λ e. 1 + total (expr_parts e)) (λ p. 1 + total (place_parts p)) (λ e. e.kind) (λ p. p.kind)
+place_kind_nodes =
+    fold-PlaceKind ℕ ℕ ℕ ℕ (λ e. 1 + total (expr_parts e)) (λ p. 1 + total (place_parts p)) (λ e. e.kind) (λ p. p.kind)
 
 abbrev pub expr_nodes : Expr → ℕ
 expr_nodes e = expr_kind_nodes e.kind

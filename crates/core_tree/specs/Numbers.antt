@@ -62,7 +62,8 @@ stmt_step (StmtKind-F.Block all) = joined all
 stmt_step (StmtKind-F.If test one other) = expr_numbers test ++ one ++ some_of (λ s. s) other
 stmt_step (StmtKind-F.While test body) = expr_numbers test ++ body
 stmt_step (StmtKind-F.Do body test) = body ++ expr_numbers test
-stmt_step (StmtKind-F.For first test step body) = some_of (λ s. s) first ++ some_of expr_numbers test ++ some_of expr_numbers step ++ body
+stmt_step (StmtKind-F.For first test step body) =
+    some_of (λ s. s) first ++ some_of expr_numbers test ++ some_of expr_numbers step ++ body
 stmt_step (StmtKind-F.Switch on groups) = expr_numbers on ++ joined groups
 stmt_step StmtKind-F.Break = []
 stmt_step StmtKind-F.Continue = []
@@ -73,7 +74,8 @@ stmt_step (StmtKind-F.Expires names body caught) = joined (map place_numbers nam
 stmt_step (StmtKind-F.Declare _ init) = joined (map init_numbers init)
 
 abbrev pub stmt_numbers : Stmt → Numbers
-stmt_numbers s = fold-StmtKind (ℕ → Numbers) Numbers Numbers (λ x node. node ∷ stmt_step x) (λ g. joined g.body) (λ x. x.kind x.node) s.kind s.node
+stmt_numbers s =
+    fold-StmtKind (ℕ → Numbers) Numbers Numbers (λ x node. node ∷ stmt_step x) (λ g. joined g.body) (λ x. x.kind x.node) s.kind s.node
 
 abbrev pub function_numbers : Function → Numbers
 function_numbers f = f.node ∷ joined (map stmt_numbers f.body)

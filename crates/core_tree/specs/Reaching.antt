@@ -68,7 +68,8 @@ stmt_calls_step (StmtKind-F.Block all) = joined all
 stmt_calls_step (StmtKind-F.If test one other) = calls_of test ++ one ++ some_of (λ s. s) other
 stmt_calls_step (StmtKind-F.While test body) = calls_of test ++ body
 stmt_calls_step (StmtKind-F.Do body test) = body ++ calls_of test
-stmt_calls_step (StmtKind-F.For first test step body) = some_of (λ s. s) first ++ some_of calls_of test ++ some_of calls_of step ++ body
+stmt_calls_step (StmtKind-F.For first test step body) =
+    some_of (λ s. s) first ++ some_of calls_of test ++ some_of calls_of step ++ body
 stmt_calls_step (StmtKind-F.Switch on groups) = calls_of on ++ joined groups
 stmt_calls_step StmtKind-F.Break = []
 stmt_calls_step StmtKind-F.Continue = []

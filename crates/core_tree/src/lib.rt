@@ -4,6 +4,7 @@
 mod expressions;
 mod extent;
 mod kinds;
+mod laid;
 mod measure;
 mod measure_expressions;
 mod measure_statements;
