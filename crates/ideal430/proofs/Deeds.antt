@@ -35,21 +35,26 @@ word-same p m k a s e h = same-word p m k a s e (h a (first-in a)) (h (a + 1) (s
 link-same : (p : Bytes) (m k : ℕ → ℕ) (segment end : ℕ) → SameOn p m k → end % 2 ≡ 0 → IsWithin (leave_uses m segment end) p
     → is_bad_link m segment end ≡ is_bad_link k segment end
 link-same p m k segment end s e h =
-    ap (λ w. is_linked segment end && not (is_link segment w)) (word-same p m k end s e (λ b i. h b (or-left (is_in_word end b) _ i)))
+    ap (λ w. is_linked segment end && not (is_link segment w))
+    (word-same p m k end s e (λ b i. h b (or-left (is_in_word end b) _ i)))
 
-leave-wild : (p : Bytes) (m k r : ℕ → ℕ) (segment : ℕ) (b c : Block) → SameOn p m k → IsWithin (leave_uses m segment (r 1 + 2 + r 15)) p
+leave-wild : (p : Bytes) (m k r : ℕ → ℕ) (segment : ℕ) (b c : Block) → SameOn p m k
+    → IsWithin (leave_uses m segment (r 1 + 2 + r 15)) p
     → has_stack segment (r 1) ≡ true → own_wild Leave r m segment b ≡ own_wild Leave r k segment c
 leave-wild p m k r segment b c s h stack = by (is_frame (r 15)) refl
   where
     by : (f : Bool) → is_frame (r 15) ≡ f
-        → wild_where (not f) (r 1) (wild_where (nat_lt (segment_top segment) (r 1 + 2 + r 15 + 2)) (r 1) (wild_where (is_bad_link m segment (r 1 + 2 + r 15)) (r 1) None))
-        ≡ wild_where (not f) (r 1) (wild_where (nat_lt (segment_top segment) (r 1 + 2 + r 15 + 2)) (r 1) (wild_where (is_bad_link k segment (r 1 + 2 + r 15)) (r 1) None))
+        → wild_where (not f) (r 1) (wild_where (nat_lt (segment_top segment) (r 1 + 2 + r 15 + 2)) (r 1)
+        (wild_where (is_bad_link m segment (r 1 + 2 + r 15)) (r 1) None))
+        ≡ wild_where (not f) (r 1) (wild_where (nat_lt (segment_top segment) (r 1 + 2 + r 15 + 2)) (r 1)
+        (wild_where (is_bad_link k segment (r 1 + 2 + r 15)) (r 1) None))
     by false e = refl
     by true e =
         let f = frame-even (r 15) e in
         let g = stack-even segment (r 1) stack in
         let even : (r 1 + 2 + r 15) % 2 ≡ 0 = omega arith in
-        ap (λ x. wild_where (nat_lt (segment_top segment) (r 1 + 2 + r 15 + 2)) (r 1) (wild_where x (r 1) None)) (link-same p m k segment (r 1 + 2 + r 15) s even h)
+        ap (λ x. wild_where (nat_lt (segment_top segment) (r 1 + 2 + r 15 + 2)) (r 1) (wild_where x (r 1) None))
+        (link-same p m k segment (r 1 + 2 + r 15) s even h)
 
 own_wild-same : (p : Bytes) (m k : ℕ → ℕ) (service : Service) (r : ℕ → ℕ) (segment : ℕ) (b c : Block) → is_built service ≡ true
     → SameOn p m k → IsWithin (service_uses service r m segment) p → has_stack segment (r 1) ≡ true
@@ -94,7 +99,8 @@ full_block-same (Some xs) (Some ys) words e = ap (λ n. if nat_lt 128 (n + words
     one : Some (length xs) ≡ Some (length ys) → length xs ≡ length ys
     one k = cc
 
-outputs-same : (p : Bytes) (m k : ℕ → ℕ) → SameOn p m k → IsWithin (λ b. is_in_word outputs_start b) p → outputs_of m ≡ outputs_of k
+outputs-same : (p : Bytes) (m k : ℕ → ℕ) → SameOn p m k → IsWithin (λ b. is_in_word outputs_start b) p
+    → outputs_of m ≡ outputs_of k
 outputs-same p m k s h = ap (λ w. min w most_outputs) (word-same p m k outputs_start s refl h)
 
 own_full-same : (p : Bytes) (m k : ℕ → ℕ) (service : Service) (r : ℕ → ℕ) (segment : ℕ) (b c : Block) → is_built service ≡ true
@@ -110,7 +116,8 @@ own_full-same p m k StampWord r segment b c built s h e = full_block-same b c 3 
 own_full-same p m k StampByte r segment b c built s h e = full_block-same b c 3 e
 own_full-same p m k Sense r segment b c built s h e = refl
 own_full-same p m k Emit r segment b c built s h e =
-    ap (λ n. if nat_lt n most_outputs then full_block b 2 else Some OutputFull) (outputs-same p m k s (λ x i. h x (or-right (is_in_word (r 1) x) _ i)))
+    ap (λ n. if nat_lt n most_outputs then full_block b 2 else Some OutputFull)
+    (outputs-same p m k s (λ x i. h x (or-right (is_in_word (r 1) x) _ i)))
     ∙ ap (λ f. if nat_lt (outputs_of k) most_outputs then f else Some OutputFull) (full_block-same b c 2 e)
 own_full-same p m k Open r segment b c built s h e = refl
 own_full-same p m k Check r segment b c built s h e = refl
@@ -132,7 +139,8 @@ popped-same m k r e = ap (λ x. set_reg (set_reg r 0 x) 1 (r 1 + 2)) e
 
 -- PC and SP are set again
 returned-same : (m k r : ℕ → ℕ) (a : ℕ) → m a ≡ k a → returned (popped r m) m a ≡ returned (popped r k) k a
-returned-same m k r a e = ap (λ x. set_reg (set_reg (popped r m) 0 x) 1 (a + 2)) e ∙ fun_ext (λ j. at (nat_eq j 0) (nat_eq j 1) (r j))
+returned-same m k r a e = ap (λ x. set_reg (set_reg (popped r m) 0 x) 1 (a + 2)) e
+    ∙ fun_ext (λ j. at (nat_eq j 0) (nat_eq j 1) (r j))
   where
     at : (s t : Bool) (u : ℕ) → (if t then a + 2 else (if s then k a else (if t then r 1 + 2 else (if s then m (r 1) else u))))
         ≡ (if t then a + 2 else (if s then k a else (if t then r 1 + 2 else (if s then k (r 1) else u))))
@@ -147,8 +155,10 @@ link-even m segment end h e = at (m end) (subst (λ (x : Bool). (x && not (is_li
     at : (w : ℕ) → not (is_link segment w) ≡ false → w % 2 ≡ 0
     at w k = grind (arith, nat_tests)
 
-leave-same : (p : Bytes) (m k r : ℕ → ℕ) (segment : ℕ) (b : Block) → SameOn p m k → IsWithin (leave_uses m segment (r 1 + 2 + r 15)) p
-    → Allowed Leave r m segment b → leave_effect (popped r m) m segment (r 1 + 2 + r 15) ≡ leave_effect (popped r k) k segment (r 1 + 2 + r 15)
+leave-same : (p : Bytes) (m k r : ℕ → ℕ) (segment : ℕ) (b : Block) → SameOn p m k
+    → IsWithin (leave_uses m segment (r 1 + 2 + r 15)) p
+    → Allowed Leave r m segment b → leave_effect (popped r m) m segment (r 1 + 2 + r 15)
+    ≡ leave_effect (popped r k) k segment (r 1 + 2 + r 15)
 leave-same p m k r segment b s h a = by (is_linked segment end) refl
   where
     end : ℕ
@@ -158,41 +168,55 @@ leave-same p m k r segment b s h a = by (is_linked segment end) refl
     word = word-same p m k end s (leave-even r m segment b a) (λ x i. h x (or-left (is_in_word end x) _ i))
 
     by : (c : Bool) → is_linked segment end ≡ c
-        → (if c then mark (returned (popped r m) m (m end)) (segment - 1) [] else (record (mark (returned (popped r m) m end) segment []) { ends = nat_eq segment 0 && nat_eq end 0x20FE }))
-        ≡ (if c then mark (returned (popped r k) k (k end)) (segment - 1) [] else (record (mark (returned (popped r k) k end) segment []) { ends = nat_eq segment 0 && nat_eq end 0x20FE }))
+        → (if c then mark (returned (popped r m) m (m end)) (segment - 1) [] else
+        (record (mark (returned (popped r m) m end) segment []) { ends = nat_eq segment 0 && nat_eq end 0x20FE }))
+        ≡ (if c then mark (returned (popped r k) k (k end)) (segment - 1) [] else
+        (record (mark (returned (popped r k) k end) segment []) { ends = nat_eq segment 0 && nat_eq end 0x20FE }))
     by true e =
         let even = link-even m segment end (leave-link r m segment b a) e in
         let used : IsWithin (λ x. is_in_word (m end) x) p = λ x i. h x (or-right (is_in_word end x) _ (and-both e i)) in
         ap (λ (f : ℕ → ℕ). mark f (segment - 1) [])
         (returned-same m k r (m end) (word-same p m k (m end) s even used) ∙ ap (λ w. returned (popped r k) k w) word)
     by false e =
-        ap (λ (f : ℕ → ℕ). record (mark f segment []) { ends = nat_eq segment 0 && nat_eq end 0x20FE }) (returned-same m k r end word)
+        ap (λ (f : ℕ → ℕ). record (mark f segment []) { ends = nat_eq segment 0 && nat_eq end 0x20FE })
+        (returned-same m k r end word)
 
 -- the service's return word
-back-same : (p : Bytes) (m k r : ℕ → ℕ) (segment : ℕ) → SameOn p m k → has_stack segment (r 1) ≡ true → IsWithin (λ x. is_in_word (r 1) x) p
+back-same : (p : Bytes) (m k r : ℕ → ℕ) (segment : ℕ) → SameOn p m k → has_stack segment (r 1) ≡ true
+    → IsWithin (λ x. is_in_word (r 1) x) p
     → popped r m ≡ popped r k
 back-same p m k r segment s stack h = popped-same m k r (word-same p m k (r 1) s (stack-even segment (r 1) stack) h)
 
-own_effect-same : (p : Bytes) (m k : ℕ → ℕ) (service : Service) (value : ℕ) (r : ℕ → ℕ) (segment : ℕ) (b c : Block) → is_built service ≡ true
+own_effect-same : (p : Bytes) (m k : ℕ → ℕ) (service : Service) (value : ℕ) (r : ℕ → ℕ) (segment : ℕ) (b c : Block)
+    → is_built service ≡ true
     → SameOn p m k → IsWithin (service_uses service r m segment) p → Allowed service r m segment b
     → own_effect service value (popped r m) m segment b ≡ own_effect service value (popped r k) k segment c
-own_effect-same p m k Halt value r segment b c built s h a = ap (λ (f : ℕ → ℕ). own_effect Halt value f k segment c) (back-same p m k r segment s a.stack h)
-own_effect-same p m k Enter value r segment b c built s h a = ap (λ (f : ℕ → ℕ). own_effect Enter value f k segment c) (back-same p m k r segment s a.stack h)
+own_effect-same p m k Halt value r segment b c built s h a = ap (λ (f : ℕ → ℕ). own_effect Halt value f k segment c)
+    (back-same p m k r segment s a.stack h)
+own_effect-same p m k Enter value r segment b c built s h a = ap (λ (f : ℕ → ℕ). own_effect Enter value f k segment c)
+    (back-same p m k r segment s a.stack h)
 own_effect-same p m k Leave value r segment b c built s h a = leave-same p m k r segment b s h a
-own_effect-same p m k Turn value r segment b c built s h a = ap (λ (f : ℕ → ℕ). own_effect Turn value f k segment c) (back-same p m k r segment s a.stack h)
-own_effect-same p m k StoreWord value r segment b c built s h a = ap (λ (f : ℕ → ℕ). own_effect StoreWord value f k segment c) (back-same p m k r segment s a.stack h)
-own_effect-same p m k StoreByte value r segment b c built s h a = ap (λ (f : ℕ → ℕ). own_effect StoreByte value f k segment c) (back-same p m k r segment s a.stack h)
+own_effect-same p m k Turn value r segment b c built s h a = ap (λ (f : ℕ → ℕ). own_effect Turn value f k segment c)
+    (back-same p m k r segment s a.stack h)
+own_effect-same p m k StoreWord value r segment b c built s h a = ap (λ (f : ℕ → ℕ). own_effect StoreWord value f k segment c)
+    (back-same p m k r segment s a.stack h)
+own_effect-same p m k StoreByte value r segment b c built s h a = ap (λ (f : ℕ → ℕ). own_effect StoreByte value f k segment c)
+    (back-same p m k r segment s a.stack h)
 own_effect-same p m k StampWord value r segment b c built s h a = no-built built
 own_effect-same p m k StampByte value r segment b c built s h a = no-built built
-own_effect-same p m k Sense value r segment b c built s h a = ap (λ (f : ℕ → ℕ). own_effect Sense value f k segment c) (back-same p m k r segment s a.stack h)
+own_effect-same p m k Sense value r segment b c built s h a = ap (λ (f : ℕ → ℕ). own_effect Sense value f k segment c)
+    (back-same p m k r segment s a.stack h)
 own_effect-same p m k Emit value r segment b c built s h a =
-    ap (λ (f : ℕ → ℕ). own_effect Emit value f m segment b) (back-same p m k r segment s a.stack (λ x i. h x (or-left (is_in_word (r 1) x) _ i)))
-    ∙ ap (λ n. mark (popped r k) segment (emit_stores n (r 13))) (outputs-same p m k s (λ x i. h x (or-right (is_in_word (r 1) x) _ i)))
+    ap (λ (f : ℕ → ℕ). own_effect Emit value f m segment b)
+    (back-same p m k r segment s a.stack (λ x i. h x (or-left (is_in_word (r 1) x) _ i)))
+    ∙ ap (λ n. mark (popped r k) segment (emit_stores n (r 13)))
+    (outputs-same p m k s (λ x i. h x (or-right (is_in_word (r 1) x) _ i)))
 own_effect-same p m k Open value r segment b c built s h a = no-built built
 own_effect-same p m k Check value r segment b c built s h a = no-built built
 own_effect-same p m k Close value r segment b c built s h a = no-built built
 own_effect-same p m k Timely value r segment b c built s h a = no-built built
-own_effect-same p m k Checkpoint value r segment b c built s h a = ap (λ (f : ℕ → ℕ). own_effect Checkpoint value f k segment c) (back-same p m k r segment s a.stack h)
+own_effect-same p m k Checkpoint value r segment b c built s h a = ap
+    (λ (f : ℕ → ℕ). own_effect Checkpoint value f k segment c) (back-same p m k r segment s a.stack h)
 
 -- ---- deeds
 
@@ -201,11 +225,13 @@ deed_if-same : (o q : Option EndKind) (e f : Effect) → o ≡ q → (o ≡ None
 deed_if-same None q e f h g = ap (deed_if None) (g refl) ∙ ap (λ x. deed_if x f) h
 deed_if-same (Some kind) q e f h g = ap (λ x. deed_if x f) h
 
-deed_of-same : (p : Bytes) (m k : ℕ → ℕ) (service : Service) (value : ℕ) (r : ℕ → ℕ) (segment : ℕ) (b c : Block) → is_built service ≡ true
+deed_of-same : (p : Bytes) (m k : ℕ → ℕ) (service : Service) (value : ℕ) (r : ℕ → ℕ) (segment : ℕ) (b c : Block)
+    → is_built service ≡ true
     → SameOn p m k → IsWithin (service_uses service r m segment) p → block_words b ≡ block_words c
     → deed_of service value r m segment b ≡ deed_of service value r k segment c
 deed_of-same p m k service value r segment b c built s h e =
-    deed_if-same (refusal_of service r m segment b) (refusal_of service r k segment c) _ _ (refusal-same p m k service r segment b c built s h e)
+    deed_if-same (refusal_of service r m segment b) (refusal_of service r k segment c) _ _
+    (refusal-same p m k service r segment b c built s h e)
     (λ none. own_effect-same p m k service value r segment b c built s h (allowed_of service service r m segment b refl none))
 
 if_built-is : (o : Option Service) (service : Service) → if_built o ≡ Some service → is_built service ≡ true
@@ -221,7 +247,8 @@ if_built-is (Some s) service h = by (is_built s) refl h
 
 -- two memories that agree on the bytes that service n uses give the same deed, and it asks the same
 pub deed-same : (p : Bytes) (m k : ℕ → ℕ) (n value : ℕ) (r : ℕ → ℕ) (segment : ℕ) (b c : Block) → SameOn p m k
-    → IsWithin (uses_at n r m segment) p → block_words b ≡ block_words c → deed_at n value r m segment b ≡ deed_at n value r k segment c
+    → IsWithin (uses_at n r m segment) p → block_words b ≡ block_words c
+    → deed_at n value r m segment b ≡ deed_at n value r k segment c
 deed-same p m k n value r segment b c s h e = by (service_at n) refl h
   where
     by : (o : Option Service) → service_at n ≡ o → IsWithin (uses_if_built o r m segment) p
@@ -236,7 +263,8 @@ ask-same p m k n r segment b c s h e = by (service_at n) refl h
     by : (o : Option Service) → service_at n ≡ o → IsWithin (uses_if_built o r m segment) p
         → ask_if_built o r m segment b ≡ ask_if_built o r k segment c
     by None is w = refl
-    by (Some service) is w = ap (λ q. ask_if q (own_ask service r)) (refusal-same p m k service r segment b c (if_built-is (service_of n) service is) s w e)
+    by (Some service) is w = ap (λ q. ask_if q (own_ask service r))
+        (refusal-same p m k service r segment b c (if_built-is (service_of n) service is) s w e)
 
 -- what is known of the effect of any service that is built
 pub record Sound (segment : ℕ) (e : Effect) : Type 0 where
@@ -272,7 +300,8 @@ own_effect-noted Close value r m segment b built = no-built built
 own_effect-noted Timely value r m segment b built = refl
 own_effect-noted Checkpoint value r m segment b built = refl
 
-deed_if-sound : (segment : ℕ) (o : Option EndKind) (e : Effect) → (o ≡ None → Sound segment e) → OnDoes (deed_if o e) (Sound segment)
+deed_if-sound : (segment : ℕ) (o : Option EndKind) (e : Effect) → (o ≡ None → Sound segment e)
+    → OnDoes (deed_if o e) (Sound segment)
 deed_if-sound segment None e h = h refl
 deed_if-sound segment (Some kind) e h = tt
 

@@ -21,7 +21,8 @@ word-even segment a h = grind (arith, nat_tests)
 enter-even : (r : ℕ → ℕ) (segment : ℕ) → AreEven (enter_effect r segment).stores
 enter-even r segment = by (has_place segment (r 1) (r 15))
   where
-    by : (b : Bool) → AreEven (if b then mark (set_reg r 1 (r 1 - r 15)) segment [] else mark (set_reg r 1 (link_address segment - r 15)) (segment + 1) (Link (link_address segment) (r 1) ∷ [])).stores
+    by : (b : Bool) → AreEven (if b then mark (set_reg r 1 (r 1 - r 15)) segment [] else mark
+        (set_reg r 1 (link_address segment - r 15)) (segment + 1) (Link (link_address segment) (r 1) ∷ [])).stores
     by true = tt
     by false = (omega arith, tt)
 
@@ -31,7 +32,11 @@ own_effect-even Halt value r m segment block b a = tt
 own_effect-even Enter value r m segment block b a = enter-even (popped r m) segment
 own_effect-even Leave value r m segment block b a = by (is_linked segment (r 1 + 2 + r 15))
   where
-    by : (c : Bool) → AreEven (if c then mark (returned (popped r m) m (m (r 1 + 2 + r 15))) (segment - 1) [] else (record (mark (returned (popped r m) m (r 1 + 2 + r 15)) segment []) { ends = nat_eq segment 0 && nat_eq (r 1 + 2 + r 15) 0x20FE })).stores
+    by : (c : Bool) → AreEven (if c then mark (returned (popped r m) m (m (r 1 + 2 + r 15))) (segment - 1) [] else
+        (record (mark (returned (popped r m) m (r 1 + 2 + r 15)) segment []) {
+          ends = nat_eq segment 0 && nat_eq
+              (r 1 + 2 + r 15) 0x20FE;
+        })).stores
     by true = tt
     by false = tt
 own_effect-even Turn value r m segment block b a = tt
@@ -49,10 +54,13 @@ own_effect-even Checkpoint value r m segment block b a = tt
 
 -- ---- the working segment is one of the 32
 
-enter-small : (r m : ℕ → ℕ) (segment : ℕ) (block : Block) → segment < 32 → own_full Enter r m segment block ≡ None → (enter_effect r segment).segment < 32
+enter-small : (r m : ℕ → ℕ) (segment : ℕ) (block : Block) → segment < 32 → own_full Enter r m segment block ≡ None
+    → (enter_effect r segment).segment < 32
 enter-small r m segment block l h = by (has_place segment (r 1) (r 15)) (nat_eq segment 31) refl h
   where
-    by : (b c : Bool) → nat_eq segment 31 ≡ c → (if b || not c then None else Some StackFull) ≡ None → (if b then mark (set_reg r 1 (r 1 - r 15)) segment [] else mark (set_reg r 1 (link_address segment - r 15)) (segment + 1) (Link (link_address segment) (r 1) ∷ [])).segment < 32
+    by : (b c : Bool) → nat_eq segment 31 ≡ c → (if b || not c then None else Some StackFull) ≡ None
+        → (if b then mark (set_reg r 1 (r 1 - r 15)) segment [] else mark (set_reg r 1 (link_address segment - r 15))
+        (segment + 1) (Link (link_address segment) (r 1) ∷ [])).segment < 32
     by true c e k = l
     by false true e k = absurd (not_some k)
     by false false e k = grind (arith, nat_tests)
@@ -63,7 +71,11 @@ own_effect-small Halt value r m segment block b l a = l
 own_effect-small Enter value r m segment block b l a = enter-small (popped r m) m segment block l a.full
 own_effect-small Leave value r m segment block b l a = by (is_linked segment (r 1 + 2 + r 15))
   where
-    by : (c : Bool) → (if c then mark (returned (popped r m) m (m (r 1 + 2 + r 15))) (segment - 1) [] else (record (mark (returned (popped r m) m (r 1 + 2 + r 15)) segment []) { ends = nat_eq segment 0 && nat_eq (r 1 + 2 + r 15) 0x20FE })).segment < 32
+    by : (c : Bool) → (if c then mark (returned (popped r m) m (m (r 1 + 2 + r 15))) (segment - 1) [] else
+        (record (mark (returned (popped r m) m (r 1 + 2 + r 15)) segment []) {
+          ends = nat_eq segment 0 && nat_eq
+              (r 1 + 2 + r 15) 0x20FE;
+        })).segment < 32
     by true = omega arith
     by false = l
 own_effect-small Turn value r m segment block b l a = l

@@ -1,6 +1,7 @@
 pub mod Along
 pub mod Deeds
 pub mod Effects
+mod Examples
 pub mod Loading
 pub mod Refusing
 pub mod Running

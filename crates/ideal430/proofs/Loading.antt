@@ -22,7 +22,8 @@ filled-at : (start : ℕ) (ws : List ℕ) (n : ℕ) (m : ℕ → ℕ) (a : ℕ) 
 unfolding put
 filled-at start ws n m a e = by_case (cases_eq a (start + 2 * n))
   where
-    by_case : ((a ≡ start + 2 * n) ⊎ (a ≡ start + 2 * n → ⊥)) → put (filled start ws n m) (start + 2 * n) (slice_index ws n) a ≡ filled start ws (n + 1) m a
+    by_case : ((a ≡ start + 2 * n) ⊎ (a ≡ start + 2 * n → ⊥))
+        → put (filled start ws n m) (start + 2 * n) (slice_index ws n) a ≡ filled start ws (n + 1) m a
     by_case (inl k) =
         let even : a % 2 ≡ 0 = omega arith in
         let half : (a - start) / 2 ≡ n = omega arith in
@@ -69,7 +70,8 @@ filled-all : (start : ℕ) (ws : List ℕ) (m : ℕ → ℕ) (a : ℕ) → a % 2
     → filled start ws (length ws) m a ≡ slice_index ws ((a - start) / 2)
 filled-all start ws m a e l z = by_case (cases_lt a (start + 2 * length ws))
   where
-    by_case : ((a < start + 2 * length ws) ⊎ (start + 2 * length ws ≤ a)) → filled start ws (length ws) m a ≡ slice_index ws ((a - start) / 2)
+    by_case : ((a < start + 2 * length ws) ⊎ (start + 2 * length ws ≤ a))
+        → filled start ws (length ws) m a ≡ slice_index ws ((a - start) / 2)
     by_case (inl h) = filled-in start ws (length ws) m a e l h
     by_case (inr h) =
         let past : length ws ≤ (a - start) / 2 = omega arith in
@@ -85,7 +87,8 @@ controlled z = filled 0x1200 (0x8000 ∷ 0x2100 ∷ []) 2 (marked z)
 apart : (a s : ℕ) → a % 2 ≡ 0 → s % 2 ≡ 0 → (a ≡ s → ⊥) → (a ≡ s + 2 → ⊥) → s ≤ a → s + 2 * 2 ≤ a
 apart a s e even x y l = omega arith
 
-two-off : (s : ℕ) (ws : List ℕ) (m : ℕ → ℕ) (a : ℕ) → a % 2 ≡ 0 → s % 2 ≡ 0 → (a ≡ s → ⊥) → (a ≡ s + 2 → ⊥) → filled s ws 2 m a ≡ m a
+two-off : (s : ℕ) (ws : List ℕ) (m : ℕ → ℕ) (a : ℕ) → a % 2 ≡ 0 → s % 2 ≡ 0 → (a ≡ s → ⊥) → (a ≡ s + 2 → ⊥)
+    → filled s ws 2 m a ≡ m a
 two-off s ws m a e even x y = by (cases_lt a s)
   where
     by : ((a < s) ⊎ (s ≤ a)) → filled s ws 2 m a ≡ m a
@@ -108,7 +111,8 @@ controlled-even z a e h = by (cases_eq a 0x1002) (cases_eq a 0x1004) (cases_eq a
     by (inr n) (inr n1) (inl k) w = subst (λ (b : ℕ). controlled z b ≡ control_word b) (sym k) refl
     by (inr n) (inr n1) (inr n2) (inl k) = subst (λ (b : ℕ). controlled z b ≡ control_word b) (sym k) refl
     by (inr n) (inr n1) (inr n2) (inr n3) =
-        two-off 0x1200 (0x8000 ∷ 0x2100 ∷ []) (marked z) a e refl n2 n3 ∙ two-off 0x1002 (0x5443 ∷ 1 ∷ []) z a e refl n n1 ∙ h ∙ sym (control-none a n n1 n2 n3)
+        two-off 0x1200 (0x8000 ∷ 0x2100 ∷ []) (marked z) a e refl n2 n3 ∙ two-off 0x1002 (0x5443 ∷ 1 ∷ []) z a e refl n n1 ∙ h
+        ∙ sym (control-none a n n1 n2 n3)
 
 abbrev with_data : (globals : List ℕ) (z : ℕ → ℕ) → (ℕ → ℕ)
 with_data globals z = filled 0x4000 globals (length globals) (controlled z)
@@ -120,7 +124,8 @@ layers-code : (code globals : List ℕ) (z : ℕ → ℕ) (a : ℕ) → length g
     → layers code globals z a ≡ slice_index code ((a - 0x8000) / 2)
 layers-code code globals z a g h e l =
     filled-all 0x8000 code (with_data globals z) a e l
-    (filled-past 0x4000 globals (length globals) (controlled z) a (omega arith) ∙ controlled-even z a e h ∙ control-high a (omega arith))
+    (filled-past 0x4000 globals (length globals) (controlled z) a (omega arith) ∙ controlled-even z a e h
+    ∙ control-high a (omega arith))
 
 layers-data : (code globals : List ℕ) (z : ℕ → ℕ) (a : ℕ) → z a ≡ 0 → a % 2 ≡ 0 → 0x4000 ≤ a → a < 0x8000
     → layers code globals z a ≡ slice_index globals ((a - 0x4000) / 2)
@@ -128,19 +133,23 @@ layers-data code globals z a h e l u =
     filled-below 0x8000 code (length code) (with_data globals z) a u
     ∙ filled-all 0x4000 globals (controlled z) a e l (controlled-even z a e h ∙ control-high a (omega arith))
 
-layers-low : (code globals : List ℕ) (z : ℕ → ℕ) (a : ℕ) → z a ≡ 0 → a % 2 ≡ 0 → a < 0x4000 → layers code globals z a ≡ control_word a
+layers-low : (code globals : List ℕ) (z : ℕ → ℕ) (a : ℕ) → z a ≡ 0 → a % 2 ≡ 0 → a < 0x4000
+    → layers code globals z a ≡ control_word a
 layers-low code globals z a h e u =
-    filled-below 0x8000 code (length code) (with_data globals z) a (omega arith) ∙ filled-below 0x4000 globals (length globals) (controlled z) a u ∙ controlled-even z a e h
+    filled-below 0x8000 code (length code) (with_data globals z) a (omega arith)
+    ∙ filled-below 0x4000 globals (length globals) (controlled z) a u ∙ controlled-even z a e h
 
 layers-odd : (code globals : List ℕ) (z : ℕ → ℕ) (a : ℕ) → z a ≡ 0 → a % 2 ≢ 0 → layers code globals z a ≡ 0
 layers-odd code globals z a h n =
     filled-odd 0x8000 code (length code) (with_data globals z) a n ∙ filled-odd 0x4000 globals (length globals) (controlled z) a n
     ∙ filled-odd 0x1200 (0x8000 ∷ 0x2100 ∷ []) 2 (marked z) a n ∙ filled-odd 0x1002 (0x5443 ∷ 1 ∷ []) 2 z a n ∙ h
 
-loaded-code : (code globals : List ℕ) (a : ℕ) → a % 2 ≡ 0 → 0x8000 ≤ a → a < 0xF000 → loaded code globals a ≡ slice_index code ((a - 0x8000) / 2)
+loaded-code : (code globals : List ℕ) (a : ℕ) → a % 2 ≡ 0 → 0x8000 ≤ a → a < 0xF000
+    → loaded code globals a ≡ slice_index code ((a - 0x8000) / 2)
 loaded-code code globals a e l u = grind (arith, nat_tests)
 
-loaded-data : (code globals : List ℕ) (a : ℕ) → a % 2 ≡ 0 → 0x4000 ≤ a → a < 0x8000 → loaded code globals a ≡ slice_index globals ((a - 0x4000) / 2)
+loaded-data : (code globals : List ℕ) (a : ℕ) → a % 2 ≡ 0 → 0x4000 ≤ a → a < 0x8000
+    → loaded code globals a ≡ slice_index globals ((a - 0x4000) / 2)
 loaded-data code globals a e l u = grind (arith, nat_tests)
 
 loaded-low : (code globals : List ℕ) (a : ℕ) → a % 2 ≡ 0 → a < 0x4000 → loaded code globals a ≡ control_word a
@@ -164,7 +173,8 @@ loaded-at : (code globals : List ℕ) (z : ℕ → ℕ) (a : ℕ) → length cod
     → layers code globals z a ≡ loaded code globals a
 loaded-at code globals z a c g h = by_parity (cases_eq (a % 2) 0)
   where
-    at : a % 2 ≡ 0 → ((a < 0x4000) ⊎ (0x4000 ≤ a)) → ((a < 0x8000) ⊎ (0x8000 ≤ a)) → ((a < 0xF000) ⊎ (0xF000 ≤ a)) → layers code globals z a ≡ loaded code globals a
+    at : a % 2 ≡ 0 → ((a < 0x4000) ⊎ (0x4000 ≤ a)) → ((a < 0x8000) ⊎ (0x8000 ≤ a)) → ((a < 0xF000) ⊎ (0xF000 ≤ a))
+        → layers code globals z a ≡ loaded code globals a
     at e (inl u) y w = layers-low code globals z a h e u ∙ sym (loaded-low code globals a e u)
     at e (inr l) (inl u) w = layers-data code globals z a h e l u ∙ sym (loaded-data code globals a e l u)
     at e (inr l) (inr k) (inl u) = layers-code code globals z a g h e k ∙ sym (loaded-code code globals a e k u)
@@ -183,5 +193,6 @@ pub loaded_words : (code globals ws : List ℕ) (n : ℕ) (m1 m2 m3 m4 : ℕ →
     → m1 ≡ filled 0x1002 (0x5443 ∷ 1 ∷ []) 2 (words_of ws) → m2 ≡ filled 0x1200 (0x8000 ∷ 0x2100 ∷ []) 2 m1
     → m3 ≡ filled 0x4000 globals (length globals) m2 → m4 ≡ filled 0x8000 code (length code) m3 → m4 ≡ loaded code globals
 loaded_words code globals ws n m1 m2 m3 m4 c g e e1 e2 e3 e4 =
-    e4 ∙ ap (filled 0x8000 code (length code)) (e3 ∙ ap (filled 0x4000 globals (length globals)) (e2 ∙ ap (filled 0x1200 (0x8000 ∷ 0x2100 ∷ []) 2) e1))
+    e4 ∙ ap (filled 0x8000 code (length code))
+    (e3 ∙ ap (filled 0x4000 globals (length globals)) (e2 ∙ ap (filled 0x1200 (0x8000 ∷ 0x2100 ∷ []) 2) e1))
     ∙ fun_ext (λ a. loaded-at code globals (words_of ws) a c g (ap (λ (x : List ℕ). words_of x a) e ∙ words_zero n a))

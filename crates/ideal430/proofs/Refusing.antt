@@ -97,7 +97,8 @@ leave-even r m segment block h =
 pub emit-place : (r m : ℕ → ℕ) (segment : ℕ) (block : Block) → Allowed Emit r m segment block → outputs_of m < 256
 emit-place r m segment block h = at (nat_lt (outputs_of m) 256) refl h.full
   where
-    at : (b : Bool) → nat_lt (outputs_of m) 256 ≡ b → (if b then full_block block 2 else Some OutputFull) ≡ None → outputs_of m < 256
+    at : (b : Bool) → nat_lt (outputs_of m) 256 ≡ b → (if b then full_block block 2 else Some OutputFull) ≡ None
+        → outputs_of m < 256
     at true e k = grind (arith, nat_tests)
     at false e k = absurd (not_some k)
 
@@ -143,7 +144,8 @@ pub emit_ready : (service : Service) (r m : ℕ → ℕ) (segment : ℕ) → ser
     → outputs_of m < 256
 emit_ready service r m segment e h = emit-place r m segment None (allowed_of service Emit r m segment None e h)
 
-pub own_effect-at : (service known : Service) (value : ℕ) (r m q : ℕ → ℕ) (segment : ℕ) (block : Block) (e : Effect) → service ≡ known
+pub own_effect-at : (service known : Service) (value : ℕ) (r m q : ℕ → ℕ) (segment : ℕ) (block : Block) (e : Effect)
+    → service ≡ known
     → q ≡ popped r m → e ≡ own_effect known value q m segment block → e ≡ own_effect service value (popped r m) m segment block
 own_effect-at service known value r m q segment block e same p is =
     subst (λ (x : Service). e ≡ own_effect x value (popped r m) m segment block) (sym same)

@@ -43,7 +43,8 @@ step-at t machine readings o at e =
     ap (λ (r : ℕ → ℕ). step free (record { regs = r; memory = t.core.memory })) at.regs
     ∙ ap (λ (m : ℕ → ℕ). step free (record { regs = view_of machine.regs.r; memory = m })) at.memory ∙ sym e
 
-next-at : (t : Ideal) (machine : Machine) (readings : List Reading) (o : Outcome) → IsAt t machine readings → machine.end ≡ Running
+next-at : (t : Ideal) (machine : Machine) (readings : List Reading) (o : Outcome) → IsAt t machine readings
+    → machine.end ≡ Running
     → o ≡ step free (record { regs = view_of machine.regs.r; memory = words_of machine.memory }) → next t ≡ after t o
 next-at t machine readings o at runs e = next-running t o (at.status ∙ runs) (step-at t machine readings o at e)
 
@@ -67,18 +68,22 @@ moved-at t machine readings regs memory at = record {
 
 pub turned_on : (t : Ideal) (machine : Machine) (readings : List Reading) (regs : Regs) (memory : Ram) → IsAt t machine readings
     → machine.end ≡ Running
-    → Next (record { regs = view_of regs.r; memory = words_of memory }) ≡ step free (record { regs = view_of machine.regs.r; memory = words_of machine.memory })
+    → Next (record { regs = view_of regs.r; memory = words_of memory })
+    ≡ step free (record { regs = view_of machine.regs.r; memory = words_of machine.memory })
     → IsAt (next t) (moved_to machine regs memory) readings
 turned_on t machine readings regs memory at runs e =
     subst (λ (u : Ideal). IsAt u (moved_to machine regs memory) readings) (sym (next-at t machine readings _ at runs e))
     (moved-at t machine readings regs memory at)
 
-pub turned_to_service : (n : ℕ) (t : Ideal) (machine new : Machine) (readings : List Reading) (regs : Regs) (memory : Ram) → IsAt t machine readings
+pub turned_to_service : (n : ℕ) (t : Ideal) (machine new : Machine) (readings : List Reading) (regs : Regs) (memory : Ram)
+    → IsAt t machine readings
     → machine.end ≡ Running
-    → Calls n (record { regs = view_of regs.r; memory = words_of memory }) ≡ step free (record { regs = view_of machine.regs.r; memory = words_of machine.memory })
+    → Calls n (record { regs = view_of regs.r; memory = words_of memory })
+    ≡ step free (record { regs = view_of machine.regs.r; memory = words_of machine.memory })
     → ((u : Ideal) → IsAt u (moved_to machine regs memory) readings → IsAt (served n u) new readings) → IsAt (next t) new readings
 turned_to_service n t machine new readings regs memory at runs e go =
-    subst (λ (u : Ideal). IsAt u new readings) (sym (next-at t machine readings _ at runs e)) (go _ (moved-at t machine readings regs memory at))
+    subst (λ (u : Ideal). IsAt u new readings) (sym (next-at t machine readings _ at runs e))
+    (go _ (moved-at t machine readings regs memory at))
 
 refused-at : (t : Ideal) (machine : Machine) (readings : List Reading) (regs : Regs) (memory : Ram) → regs ≡ machine.regs
     → words_of memory ≡ words_of machine.memory → IsAt t machine readings → IsAt t (moved_to machine regs memory) readings
@@ -94,10 +99,12 @@ refused-at t machine readings regs memory r m at = record {
   within = at.within;
 }
 
-pub turned_wild : (a : ℕ) (t : Ideal) (machine new : Machine) (readings : List Reading) (regs : Regs) (memory : Ram) → IsAt t machine readings
+pub turned_wild : (a : ℕ) (t : Ideal) (machine new : Machine) (readings : List Reading) (regs : Regs) (memory : Ram)
+    → IsAt t machine readings
     → machine.end ≡ Running → regs ≡ machine.regs → words_of memory ≡ words_of machine.memory
     → Wild a ≡ step free (record { regs = view_of machine.regs.r; memory = words_of machine.memory })
-    → ((u : Ideal) → IsAt u (moved_to machine regs memory) readings → IsAt (stopped u (Ended (WildAt a))) new readings) → IsAt (next t) new readings
+    → ((u : Ideal) → IsAt u (moved_to machine regs memory) readings → IsAt (stopped u (Ended (WildAt a))) new readings)
+    → IsAt (next t) new readings
 turned_wild a t machine new readings regs memory at runs r m e go =
     subst (λ (u : Ideal). IsAt u new readings) (sym (next-at t machine readings _ at runs e))
     (go t (refused-at t machine readings regs memory r m at))
@@ -115,8 +122,10 @@ run_over n i t machine readings l at h =
     subst (λ (u : Ideal). IsAt u machine readings) (sym (run-stopped n i t l (λ e. h (sym at.status ∙ e)))) at
 
 -- the answer of a run
-pub state_of-at : (t : Ideal) (machine : Machine) (readings : List Reading) (words : List ℕ) → IsAt t machine readings → words ≡ machine.memory
-    → length words ≡ 32768 → IsStateOf t (record { regs = machine.regs; words = words; services = machine.marks; end = machine.end })
+pub state_of-at : (t : Ideal) (machine : Machine) (readings : List Reading) (words : List ℕ) → IsAt t machine readings
+    → words ≡ machine.memory
+    → length words ≡ 32768 → IsStateOf t
+    (record { regs = machine.regs; words = words; services = machine.marks; end = machine.end })
 state_of-at t machine readings words at e l = record {
   regs = sym at.regs;
   memory = ap words_of e ∙ sym at.memory;

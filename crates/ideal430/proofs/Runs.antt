@@ -29,16 +29,19 @@ doing-more : (t : Ideal) (more : List Reading) (d : Deed) → doing (with_more t
 doing-more t more (Refuses kind) = refl
 doing-more t more (Does e) = refl
 
-doing-left : (t : Ideal) (rest more : List Reading) (d : Deed) → doing (with_left t (rest ++ more)) d ≡ with_more (doing (with_left t rest) d) more
+doing-left : (t : Ideal) (rest more : List Reading) (d : Deed)
+    → doing (with_left t (rest ++ more)) d ≡ with_more (doing (with_left t rest) d) more
 doing-left t rest more (Refuses kind) = refl
 doing-left t rest more (Does e) = refl
 
-sensing-more : (n : ℕ) (t : Ideal) (more : List Reading) (channel : ℕ) (left : List Reading) → (Waits (sensing n t channel left).status → ⊥)
+sensing-more : (n : ℕ) (t : Ideal) (more : List Reading) (channel : ℕ) (left : List Reading)
+    → (Waits (sensing n t channel left).status → ⊥)
     → sensing n (with_more t more) channel (left ++ more) ≡ with_more (sensing n t channel left) more
 sensing-more n t more channel [] h = absurd (h refl)
 sensing-more n t more channel (reading.Sense c value ∷ rest) h = by (nat_eq c channel)
   where
-    by : (b : Bool) → (if b then doing (with_left t (rest ++ more)) (deed_here n value t) else stopped (with_more t more) NeedsReading)
+    by : (b : Bool) → (if b then doing (with_left t (rest ++ more)) (deed_here n value t) else stopped
+        (with_more t more) NeedsReading)
         ≡ with_more (if b then doing (with_left t rest) (deed_here n value t) else stopped t NeedsReading) more
     by true = doing-left t rest more (deed_here n value t)
     by false = refl
@@ -56,17 +59,20 @@ asking-more n t more Nothing h = doing-more t more (deed_here n 0 t)
 asking-more n t more (Sensor channel) h = sensing-more n t more channel t.left h
 asking-more n t more Clock h = timing-more n t more t.left h
 
-after-more : (t : Ideal) (more : List Reading) (o : Outcome) → (Waits (after t o).status → ⊥) → after (with_more t more) o ≡ with_more (after t o) more
+after-more : (t : Ideal) (more : List Reading) (o : Outcome) → (Waits (after t o).status → ⊥)
+    → after (with_more t more) o ≡ with_more (after t o) more
 after-more t more (Next s) h = refl
 after-more t more (Calls n s) h = asking-more n (moved t s) more (ask_here n (moved t s)) h
 after-more t more (Wild a) h = refl
 
-if-more : (status : IdealEnd) (t : Ideal) (more : List Reading) → (Waits (next_if status t).status → ⊥) → next_if status (with_more t more) ≡ with_more (next_if status t) more
+if-more : (status : IdealEnd) (t : Ideal) (more : List Reading) → (Waits (next_if status t).status → ⊥)
+    → next_if status (with_more t more) ≡ with_more (next_if status t) more
 if-more Running t more h = after-more t more (step free t.core) h
 if-more (Ended kind) t more h = refl
 if-more NeedsReading t more h = refl
 
-pub next-more : (t : Ideal) (more : List Reading) → (Waits (next t).status → ⊥) → next (with_more t more) ≡ with_more (next t) more
+pub next-more : (t : Ideal) (more : List Reading) → (Waits (next t).status → ⊥)
+    → next (with_more t more) ≡ with_more (next t) more
 next-more t more h = if-more t.status t more h
 
 running-not : (status : IdealEnd) → Waits status → status ≡ Running → ⊥
@@ -76,7 +82,8 @@ waits-on : (t : Ideal) → Waits t.status → Waits (next t).status
 waits-on t w = subst (λ (x : Ideal). Waits x.status) (sym (next-stopped t (running-not t.status w))) w
 
 -- more readings change nothing until the first that is missing
-pub run-more : (n : ℕ) (t : Ideal) (more : List Reading) → (Waits (run n t).status → ⊥) → run n (with_more t more) ≡ with_more (run n t) more
+pub run-more : (n : ℕ) (t : Ideal) (more : List Reading) → (Waits (run n t).status → ⊥)
+    → run n (with_more t more) ≡ with_more (run n t) more
 run-more zero t more h = refl
 run-more (suc n) t more h = ap next (run-more n t more (λ w. h (waits-on (run n t) w))) ∙ next-more (run n t) more h
 
@@ -118,19 +125,24 @@ runs-or : (t : Ideal) → t.status ≡ Running → Waits t.status → ⊥
 runs-or t e w = running-not t.status w e
 
 -- A claim of n instructions leads to one of the next, which takes the readings rs.
-pub claim-step : (start : Ideal) (readings rs : List Reading) (n : ℕ) (P Q : Ideal → Type 0) → ((t : Ideal) → P t → t.status ≡ Running)
-    → ((t : Ideal) → t.left ≡ [] → P t → UsesSettled (with_more t rs) → ((next (with_more t rs)).left ≡ []) × Q (next (with_more t rs)))
+pub claim-step : (start : Ideal) (readings rs : List Reading) (n : ℕ) (P Q : Ideal → Type 0)
+    → ((t : Ideal) → P t → t.status ≡ Running)
+    → ((t : Ideal) → t.left ≡ [] → P t → UsesSettled (with_more t rs) → ((next (with_more t rs)).left ≡ [])
+    × Q (next (with_more t rs)))
     → Claim start readings n P → Claim start (readings ++ rs) (suc n) Q
 claim-step start readings rs n P Q runs step-to claim clean =
-    let more : with_more start (readings ++ rs) ≡ with_more (with_more start readings) rs = ap (with_left start) (sym (append_assoc start.left readings rs)) in
+    let more : with_more start (readings ++ rs)
+    ≡ with_more (with_more start readings) rs = ap (with_left start) (sym (append_assoc start.left readings rs)) in
     let c2 : IsClean (suc n) (with_more (with_more start readings) rs) = subst (IsClean (suc n)) more clean in
     let c1 : IsClean n (with_more (with_more start readings) rs) = λ k l. c2 k (omega arith) in
     let here = claim (clean-less n (with_more start readings) rs c1) in
     let t = run n (with_more start readings) in
-    let e : run n (with_more (with_more start readings) rs) ≡ with_more t rs = run-more n (with_more start readings) rs (runs-or t (runs t here.1)) in
+    let e : run n (with_more (with_more start readings) rs)
+    ≡ with_more t rs = run-more n (with_more start readings) rs (runs-or t (runs t here.1)) in
     let r : UsesSettled (with_more t rs) = subst UsesSettled e (c2 n (omega arith)) in
     let done = step-to t here.0 here.1 r in
-    let f : next (with_more t rs) ≡ run (suc n) (with_more start (readings ++ rs)) = ap next (sym e) ∙ ap (run (suc n)) (sym more) in
+    let f : next (with_more t rs) ≡ run (suc n) (with_more start (readings ++ rs)) = ap next (sym e)
+    ∙ ap (run (suc n)) (sym more) in
     subst (λ (x : Ideal). (x.left ≡ []) × Q x) f done
 
 -- ---- what has no effect
@@ -139,7 +151,8 @@ claim-step start readings rs n P Q runs step-to claim clean =
 abbrev watched : Ideal → Bytes → (ℕ → ℕ) → List Bytes → Meter → Ideal
 watched t settled pointers earlier meter = record t { settled = settled; pointers = pointers; earlier = earlier; meter = meter }
 
-same : (t u : Ideal) → t.core ≡ u.core → t.segment ≡ u.segment → t.block ≡ u.block → t.marks ≡ u.marks → t.left ≡ u.left → t.status ≡ u.status → SameButWatched t u
+same : (t u : Ideal) → t.core ≡ u.core → t.segment ≡ u.segment → t.block ≡ u.block → t.marks ≡ u.marks → t.left ≡ u.left
+    → t.status ≡ u.status → SameButWatched t u
 same t u c s b m l e = record { core = c; segment = s; block = b; marks = m; left = l; status = e }
 
 doing-watched : (t : Ideal) (s : Bytes) (p : ℕ → ℕ) (f : List Bytes) (q : Meter) (rest : List Reading) (d : Deed)
@@ -187,7 +200,14 @@ if-watched NeedsReading t s p f q = same _ _ refl refl refl refl refl refl
 -- a machine is another with its own things in what has no effect
 watched-is : (t u : Ideal) → SameButWatched t u → watched t u.settled u.pointers u.earlier u.meter ≡ u
 watched-is t u h =
-    ap (λ (c : State). record { core = c; segment = t.segment; block = t.block; marks = t.marks; left = t.left; status = t.status; settled = u.settled; pointers = u.pointers; earlier = u.earlier; meter = u.meter }) h.core
+    ap (λ (c : State). record u {
+      core = c;
+      segment = t.segment;
+      block = t.block;
+      marks = t.marks;
+      left = t.left;
+      status = t.status;
+    }) h.core
     ∙ ap (λ s. record u { segment = s; block = t.block; marks = t.marks; left = t.left; status = t.status }) h.segment
     ∙ ap (λ b. record u { block = b; marks = t.marks; left = t.left; status = t.status }) h.block
     ∙ ap (λ m. record u { marks = m; left = t.left; status = t.status }) h.marks
@@ -196,7 +216,8 @@ watched-is t u h =
 
 pub next-watched : (t u : Ideal) → SameButWatched t u → SameButWatched (next t) (next u)
 next-watched t u h =
-    subst (λ (x : Ideal). SameButWatched (next t) (next x)) (watched-is t u h) (if-watched t.status t u.settled u.pointers u.earlier u.meter)
+    subst (λ (x : Ideal). SameButWatched (next t) (next x)) (watched-is t u h)
+    (if-watched t.status t u.settled u.pointers u.earlier u.meter)
 
 pub run-watched : (n : ℕ) (t u : Ideal) → SameButWatched t u → SameButWatched (run n t) (run n u)
 run-watched zero t u h = h
@@ -219,7 +240,8 @@ sensing-counts : (n : ℕ) (t : Ideal) (channel : ℕ) (left : List Reading) →
 sensing-counts n t channel [] = inl refl
 sensing-counts n t channel (reading.Sense c value ∷ rest) = by (nat_eq c channel)
   where
-    by : (b : Bool) → CountsOn t.marks (if b then doing (with_left t rest) (deed_here n value t) else stopped t NeedsReading).marks
+    by : (b : Bool) → CountsOn t.marks
+        (if b then doing (with_left t rest) (deed_here n value t) else stopped t NeedsReading).marks
     by true = doing-counts (with_left t rest) (deed_here n value t)
     by false = inl refl
 sensing-counts n t channel (reading.Clock ms ∷ rest) = inl refl

@@ -40,7 +40,8 @@ ask-some n t service o e h =
     ap (λ (p : Option Service). ask_if_built p t.core.regs t.core.memory t.segment t.block) e
     ∙ ap (λ (q : Option EndKind). ask_if q (own_ask service t.core.regs)) h
 
-deed-some : (n value : ℕ) (t : Ideal) (service : Service) (o : Option EndKind) → service_at n ≡ Some service → refusal_here service t ≡ o
+deed-some : (n value : ℕ) (t : Ideal) (service : Service) (o : Option EndKind) → service_at n ≡ Some service
+    → refusal_here service t ≡ o
     → deed_here n value t ≡ deed_if o (effect_here service value t)
 deed-some n value t service o e h =
     ap (λ (p : Option Service). deed_if_built p n value t.core.regs t.core.memory t.segment t.block) e
@@ -51,7 +52,8 @@ deed-some n value t service o e h =
 pub served-none : (n : ℕ) (t : Ideal) → service_at n ≡ None → served n t ≡ stopped t (Ended (Wild (service_entry n)))
 served-none n t e = ap (asking n t) (ask-none n t e) ∙ ap (doing t) (deed-none n 0 t e)
 
-pub served-refused : (n : ℕ) (t : Ideal) (service : Service) (kind : EndKind) → service_at n ≡ Some service → refusal_here service t ≡ Some kind
+pub served-refused : (n : ℕ) (t : Ideal) (service : Service) (kind : EndKind) → service_at n ≡ Some service
+    → refusal_here service t ≡ Some kind
     → served n t ≡ stopped t (Ended kind)
 served-refused n t service kind e h =
     ap (asking n t) (ask-some n t service (Some kind) e h) ∙ ap (doing t) (deed-some n 0 t service (Some kind) e h)
@@ -70,7 +72,8 @@ sensing-some n t channel value [] h = absurd (no h)
 sensing-some n t channel value (reading.Sense c v ∷ rest) h = by (nat_eq c channel) h
   where
     by : (b : Bool) → (if b then Some v else None) ≡ Some value
-        → (if b then doing (with_left t rest) (deed_here n v t) else stopped t NeedsReading) ≡ doing (with_left t rest) (deed_here n value t)
+        → (if b then doing (with_left t rest) (deed_here n v t) else stopped t NeedsReading)
+        ≡ doing (with_left t rest) (deed_here n value t)
     by true k = let e : v ≡ value = cc in ap (λ (x : ℕ). doing (with_left t rest) (deed_here n x t)) e
     by false k = cc
 sensing-some n t channel value (reading.Clock ms ∷ rest) h = absurd (no h)
@@ -89,14 +92,16 @@ sensing-none n t channel (reading.Sense c v ∷ rest) h = by (nat_eq c channel) 
     by false k = refl
 sensing-none n t channel (reading.Clock ms ∷ rest) h = refl
 
-pub served-sensed : (n : ℕ) (t : Ideal) (service : Service) (channel value : ℕ) → service_at n ≡ Some service → refusal_here service t ≡ None
+pub served-sensed : (n : ℕ) (t : Ideal) (service : Service) (channel value : ℕ) → service_at n ≡ Some service
+    → refusal_here service t ≡ None
     → own_ask service t.core.regs ≡ Sensor channel → sensed_value channel t.left ≡ Some value
     → served n t ≡ did (with_left t (drop 1 t.left)) (effect_here service value t)
 served-sensed n t service channel value e h q s =
     ap (asking n t) (ask-some n t service None e h ∙ q) ∙ sensing-some n t channel value t.left s
     ∙ ap (doing (with_left t (drop 1 t.left))) (deed-some n value t service None e h)
 
-pub served-missing : (n : ℕ) (t : Ideal) (service : Service) (channel : ℕ) → service_at n ≡ Some service → refusal_here service t ≡ None
+pub served-missing : (n : ℕ) (t : Ideal) (service : Service) (channel : ℕ) → service_at n ≡ Some service
+    → refusal_here service t ≡ None
     → own_ask service t.core.regs ≡ Sensor channel → sensed_value channel t.left ≡ None → served n t ≡ stopped t NeedsReading
 served-missing n t service channel e h q s =
     ap (asking n t) (ask-some n t service None e h ∙ q) ∙ sensing-none n t channel t.left s
@@ -104,7 +109,8 @@ served-missing n t service channel e h q s =
 -- ---- the services that are built
 
 -- those that ask no sensor ask nothing
-pub own_ask-quiet : (service : Service) (r : ℕ → ℕ) → is_built service ≡ true → ((channel : ℕ) → own_ask service r ≡ Sensor channel → ⊥)
+pub own_ask-quiet : (service : Service) (r : ℕ → ℕ) → is_built service ≡ true
+    → ((channel : ℕ) → own_ask service r ≡ Sensor channel → ⊥)
     → own_ask service r ≡ Nothing
 own_ask-quiet Halt r b q = refl
 own_ask-quiet Enter r b q = refl
@@ -139,7 +145,8 @@ service_at-built n service h = if_built-built (service_of n) service h
 -- ---- where the code's machine is
 
 -- what the machine finds is what the code's machine finds
-pub refusal-at : (t : Ideal) (machine : Machine) (readings : List Reading) (service : Service) (o : Option EndKind) → IsAt t machine readings
+pub refusal-at : (t : Ideal) (machine : Machine) (readings : List Reading) (service : Service) (o : Option EndKind)
+    → IsAt t machine readings
     → o ≡ refusal_of service (view_of machine.regs.r) (words_of machine.memory) machine.segment None → refusal_here service t ≡ o
 refusal-at t machine readings service o at e =
     ap (λ (r : ℕ → ℕ). refusal_of service r t.core.memory t.segment t.block) at.regs
@@ -148,14 +155,18 @@ refusal-at t machine readings service o at e =
     ∙ ap (λ (b : Block). refusal_of service (view_of machine.regs.r) (words_of machine.memory) machine.segment b) at.block
     ∙ sym e
 
-pub effect-at : (t : Ideal) (machine : Machine) (readings : List Reading) (service : Service) (value : ℕ) (e : Effect) → IsAt t machine readings
-    → e ≡ own_effect service value (popped (view_of machine.regs.r) (words_of machine.memory)) (words_of machine.memory) machine.segment None
+pub effect-at : (t : Ideal) (machine : Machine) (readings : List Reading) (service : Service) (value : ℕ) (e : Effect)
+    → IsAt t machine readings
+    → e ≡ own_effect service value (popped (view_of machine.regs.r) (words_of machine.memory))
+    (words_of machine.memory) machine.segment None
     → e ≡ effect_here service value t
 effect-at t machine readings service value e at h =
     sym (ap (λ (r : ℕ → ℕ). own_effect service value (popped r t.core.memory) t.core.memory t.segment t.block) at.regs
     ∙ ap (λ (m : ℕ → ℕ). own_effect service value (popped (view_of machine.regs.r) m) m t.segment t.block) at.memory
-    ∙ ap (λ (s : ℕ). own_effect service value (popped (view_of machine.regs.r) (words_of machine.memory)) (words_of machine.memory) s t.block) at.segment
-    ∙ ap (λ (b : Block). own_effect service value (popped (view_of machine.regs.r) (words_of machine.memory)) (words_of machine.memory) machine.segment b) at.block
+    ∙ ap (λ (s : ℕ). own_effect service value (popped (view_of machine.regs.r) (words_of machine.memory))
+    (words_of machine.memory) s t.block) at.segment
+    ∙ ap (λ (b : Block). own_effect service value (popped (view_of machine.regs.r) (words_of machine.memory))
+    (words_of machine.memory) machine.segment b) at.block
     ∙ sym h)
 
 -- what is asked of a deed before it is done
@@ -177,7 +188,8 @@ drop-more : (readings : List Reading) (n : ℕ) → drop 1 (drop n readings) ≡
 drop-more readings n = drop-drop 1 n readings
 
 -- a reading that was found is one more that was taken
-sensed-within : (channel value : ℕ) (readings : List Reading) (n : ℕ) → sensed_value channel (drop n readings) ≡ Some value → n < length readings
+sensed-within : (channel value : ℕ) (readings : List Reading) (n : ℕ) → sensed_value channel (drop n readings) ≡ Some value
+    → n < length readings
 sensed-within channel value readings n h = by (cases_lt n (length readings))
   where
     by : ((n < length readings) ⊎ (length readings ≤ n)) → n < length readings
@@ -209,11 +221,13 @@ pub served_sensed : (n : ℕ) (t : Ideal) (machine new : Machine) (readings : Li
     → IsAt t machine readings → service_at n ≡ Some service
     → refusal_of service (view_of machine.regs.r) (words_of machine.memory) machine.segment None ≡ None
     → own_ask service t.core.regs ≡ Sensor channel → Some value ≡ sensed_value channel (drop machine.taken readings)
-    → ((u : Ideal) → IsAt u (record machine { taken = machine.taken + 1 }) readings → IsAt (did u (effect_here service value u)) new readings)
+    → ((u : Ideal) → IsAt u (record machine { taken = machine.taken + 1 }) readings
+    → IsAt (did u (effect_here service value u)) new readings)
     → IsAt (served n t) new readings
 served_sensed n t machine new readings service channel value at e h q s go =
     subst (λ (u : Ideal). IsAt u new readings)
-    (sym (served-sensed n t service channel value e (refusal-at t machine readings service None at (sym h)) q (ap (sensed_value channel) at.left ∙ sym s)))
+    (sym (served-sensed n t service channel value e (refusal-at t machine readings service None at (sym h)) q
+    (ap (sensed_value channel) at.left ∙ sym s)))
     (go (with_left t (drop 1 t.left)) (took t machine readings channel value at (sym s)))
 
 pub served_missing : (n : ℕ) (t : Ideal) (machine new : Machine) (readings : List Reading) (service : Service) (channel : ℕ)
@@ -223,7 +237,8 @@ pub served_missing : (n : ℕ) (t : Ideal) (machine new : Machine) (readings : L
     → IsAt (stopped t NeedsReading) new readings → IsAt (served n t) new readings
 served_missing n t machine new readings service channel at e h q s done =
     subst (λ (u : Ideal). IsAt u new readings)
-    (sym (served-missing n t service channel e (refusal-at t machine readings service None at (sym h)) q (ap (sensed_value channel) at.left ∙ sym s)))
+    (sym (served-missing n t service channel e (refusal-at t machine readings service None at (sym h)) q
+    (ap (sensed_value channel) at.left ∙ sym s)))
     done
 
 pub served_none : (n : ℕ) (t : Ideal) (new : Machine) (readings : List Reading) → service_at n ≡ None
@@ -235,10 +250,13 @@ pub served_refused : (n : ℕ) (t : Ideal) (machine new : Machine) (readings : L
     → Some kind ≡ refusal_of service (view_of machine.regs.r) (words_of machine.memory) machine.segment None
     → IsAt (stopped t (Ended kind)) new readings → IsAt (served n t) new readings
 served_refused n t machine new readings service kind at e h done =
-    subst (λ (u : Ideal). IsAt u new readings) (sym (served-refused n t service kind e (refusal-at t machine readings service (Some kind) at h))) done
+    subst (λ (u : Ideal). IsAt u new readings)
+    (sym (served-refused n t service kind e (refusal-at t machine readings service (Some kind) at h))) done
 
-pub served_nothing : (n : ℕ) (t : Ideal) (machine new : Machine) (readings : List Reading) (service : Service) → IsAt t machine readings
-    → service_at n ≡ Some service → None ≡ refusal_of service (view_of machine.regs.r) (words_of machine.memory) machine.segment None
+pub served_nothing : (n : ℕ) (t : Ideal) (machine new : Machine) (readings : List Reading) (service : Service)
+    → IsAt t machine readings
+    → service_at n ≡ Some service → None
+    ≡ refusal_of service (view_of machine.regs.r) (words_of machine.memory) machine.segment None
     → ((channel : ℕ) → own_ask service (view_of machine.regs.r) ≡ Sensor channel → ⊥)
     → IsAt (did t (effect_here service 0 t)) new readings → IsAt (served n t) new readings
 served_nothing n t machine new readings service at e h q done =

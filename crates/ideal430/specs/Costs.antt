@@ -77,7 +77,8 @@ is_due ticks period entries length changes asks ends opens =
 -- the same of an effect, from the numbers before it; what is no mark is never due
 abbrev pub due_of : (segment : ℕ) → Block → Effect → (ticks period entries length : ℕ) → Bool
 due_of segment block e ticks period entries length =
-    e.marks && is_due (ticks + effect_ticks segment block e) period (entries + effect_entries segment e) (length_after block e length)
+    e.marks && is_due (ticks + effect_ticks segment block e) period (entries + effect_entries segment e)
+    (length_after block e length)
     (not (nat_eq e.segment segment)) e.asks e.ends (is_opening e.block)
 
 -- the ticks of a deed, its commit counted where one is due; a refused service takes none

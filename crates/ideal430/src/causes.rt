@@ -55,7 +55,8 @@ pub fn linked(segment: u16, end: u16) -> bool
 fn enter_is_wild(regs: &Regs, segment: u16) -> bool
     requires segment { segment < 32 }
     requires stack { has_stack segment (view_of regs.now.r 1) ≡ true }
-    ensures { (m : ℕ → ℕ) (block : Block) → own_wild Enter (view_of regs.now.r) m segment block ≡ wild_where result (view_of regs.now.r 1) None }
+    ensures { (m : ℕ → ℕ) (block : Block)
+        → own_wild Enter (view_of regs.now.r) m segment block ≡ wild_where result (view_of regs.now.r 1) None }
 {
     !framed(regs.r[15]) || regs.r[1] + 2 == base_of(segment) + SEGMENT_BYTES
 }
@@ -74,7 +75,8 @@ fn badly_linked<M: Words>(memory: &M, segment: u16, end: u16) -> bool
 fn leave_is_wild<M: Words>(regs: &Regs, memory: &M, segment: u16) -> bool
     requires segment { segment < 32 }
     requires stack { has_stack segment (view_of regs.now.r 1) ≡ true }
-    ensures { (block : Block) → own_wild Leave (view_of regs.now.r) (M.words memory.now) segment block ≡ wild_where result (view_of regs.now.r 1) None }
+    ensures { (block : Block) → own_wild Leave (view_of regs.now.r) (M.words memory.now) segment block
+        ≡ wild_where result (view_of regs.now.r 1) None }
 {
     let bytes = regs.r[15];
     if !framed(bytes) {

@@ -71,7 +71,8 @@ fn full<M: Words>(
     requires segment { segment < 32 }
     requires stack { has_stack segment (view_of regs.now.r 1) ≡ true }
     requires built { is_built service ≡ true }
-    ensures { (block : Block) → block_words block ≡ noted → result ≡ own_full service (popped_of (view_of regs.now.r) (M.words memory.now)) (M.words memory.now) segment block }
+    ensures { (block : Block) → block_words block ≡ noted
+        → result ≡ own_full service (popped_of (view_of regs.now.r) (M.words memory.now)) (M.words memory.now) segment block }
 {
     match service {
         Service::Enter => {
@@ -104,7 +105,8 @@ pub fn refusal<M: Words>(
 ) -> Option<EndKind>
     requires segment { segment < 32 }
     requires built { is_built service ≡ true }
-    ensures { (block : Block) → block_words block ≡ noted → result ≡ refusal_of service (view_of regs.now.r) (M.words memory.now) segment block }
+    ensures { (block : Block) → block_words block ≡ noted
+        → result ≡ refusal_of service (view_of regs.now.r) (M.words memory.now) segment block }
 {
     match wild_cause(service, regs, memory, segment) {
         Some(address) => Some(EndKind::Wild { address }),
@@ -188,7 +190,8 @@ fn leave<M: Words>(regs: Regs, memory: &M, segment: u16) -> Deed
     requires even { (view_of regs.r 1 + view_of regs.r 15) % 2 ≡ 0 }
     requires end { view_of regs.r 1 + view_of regs.r 15 + 2 ≤ segment_top segment }
     requires link { is_bad_link (M.words memory.now) segment (view_of regs.r 1 + view_of regs.r 15) ≡ false }
-    ensures { effect_shown result ≡ leave_effect (view_of regs.r) (M.words memory.now) segment (view_of regs.r 1 + view_of regs.r 15) }
+    ensures { effect_shown result ≡ leave_effect (view_of regs.r) (M.words memory.now) segment
+        (view_of regs.r 1 + view_of regs.r 15) }
 {
     let end = regs.r[1] + regs.r[15];
     if linked(segment, end) {
@@ -206,7 +209,8 @@ fn leave<M: Words>(regs: Regs, memory: &M, segment: u16) -> Deed
 /// An output is appended.
 fn emit<M: Words>(regs: Regs, memory: &M, segment: u16) -> Deed
     requires { outputs_of (M.words memory.now) < 256 }
-    ensures { effect_shown result ≡ mark_of (view_of regs.r) segment (emit_stores (outputs_of (M.words memory.now)) (view_of regs.r 13)) }
+    ensures { effect_shown result ≡ mark_of (view_of regs.r) segment
+        (emit_stores (outputs_of (M.words memory.now)) (view_of regs.r 13)) }
 {
     let length = outputs(memory);
     let word = Store::Word {
@@ -231,7 +235,8 @@ pub fn deed_of<M: Words>(
     requires segment { segment < 32 }
     requires built { is_built service ≡ true }
     requires allowed { refusal_of service (view_of found.now.r) (M.words memory.now) segment None ≡ None }
-    ensures { (block : Block) → effect_shown result ≡ own_effect service value (popped_of (view_of found.now.r) (M.words memory.now)) (M.words memory.now) segment block }
+    ensures { (block : Block) → effect_shown result
+        ≡ own_effect service value (popped_of (view_of found.now.r) (M.words memory.now)) (M.words memory.now) segment block }
 {
     let regs = popped(found, memory, segment);
     match service {

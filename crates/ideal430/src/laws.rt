@@ -22,7 +22,8 @@ pub fn settled_bytes_decide()
 
 /// More readings change nothing until the first that is missing.
 pub fn later_readings_wait()
-    ensures { (n : ℕ) → (t : Ideal) → (more : List Reading) → ((run n t).status ≡ NeedsReading → ⊥) → run n (with_more t more) ≡ with_more (run n t) more }
+    ensures { (n : ℕ) → (t : Ideal) → (more : List Reading) → ((run n t).status ≡ NeedsReading → ⊥)
+        → run n (with_more t more) ≡ with_more (run n t) more }
 {}
 
 /// An instruction with its service makes at most one mark.

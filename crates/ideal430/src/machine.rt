@@ -34,7 +34,8 @@ pub struct Machine {
 /// The start, over a memory into which an image was loaded.
 fn start(alloc: Global, image: &Image) -> Result<Machine, NoMemory>
     requires { IsLoadable image.now.code image.now.globals }
-    ensures is { IfOk result (λ machine. (readings : List Given) → IsAt (start_of (loaded image.now.code image.now.globals) readings) machine readings) }
+    ensures is { IfOk result (λ machine. (readings : List Given)
+        → IsAt (start_of (loaded image.now.code image.now.globals) readings) machine readings) }
     ensures fresh { IfOk result (λ machine. machine.marks ≡ 0) }
     ensures small { IfOk result (λ machine. machine.segment < 32) }
 {
@@ -88,7 +89,8 @@ fn perform(machine: &mut Machine, deed: Deed)
     requires even { AreEven (stores_shown deed.stores) }
     requires marks { machine.old.marks < 2 ^ 32 - 1 }
     requires segment { deed.segment < 32 }
-    ensures is { (t : Ideal) → (readings : List Given) → IsAt t machine.old readings → IsAt (did t (effect_shown deed)) machine.new readings }
+    ensures is { (t : Ideal) → (readings : List Given) → IsAt t machine.old readings
+        → IsAt (did t (effect_shown deed)) machine.new readings }
     ensures marks { machine.new.marks ≤ machine.old.marks + 1 }
     ensures small { machine.new.segment < 32 }
 {
@@ -119,8 +121,10 @@ fn act(machine: &mut Machine, service: Service, value: u16)
     requires built { is_built service ≡ true }
     requires small { machine.old.segment < 32 }
     requires marks { machine.old.marks < 2 ^ 32 - 1 }
-    requires allowed { refusal_of service (view_of machine.old.regs.r) (words_of machine.old.memory) machine.old.segment None ≡ None }
-    ensures is { (t : Ideal) → (readings : List Given) → IsAt t machine.old readings → IsAt (did t (effect_here service value t)) machine.new readings }
+    requires allowed { refusal_of service (view_of machine.old.regs.r) (words_of machine.old.memory) machine.old.segment None
+        ≡ None }
+    ensures is { (t : Ideal) → (readings : List Given) → IsAt t machine.old readings
+        → IsAt (did t (effect_here service value t)) machine.new readings }
     ensures marks { machine.new.marks ≤ machine.old.marks + 1 }
     ensures small { machine.new.segment < 32 }
 {
@@ -149,8 +153,10 @@ fn sense(machine: &mut Machine, service: Service, channel: u16, readings: &[Read
     requires built { is_built service ≡ true }
     requires small { machine.old.segment < 32 }
     requires marks { machine.old.marks < 2 ^ 32 - 1 }
-    requires allowed { refusal_of service (view_of machine.old.regs.r) (words_of machine.old.memory) machine.old.segment None ≡ None }
-    ensures is { (t : Ideal) → IsAt t machine.old readings.now → (n : ℕ) → service_at_number n ≡ Some service → own_ask service t.core.regs ≡ AskName.Sensor channel → IsAt (served n t) machine.new readings.now }
+    requires allowed { refusal_of service (view_of machine.old.regs.r) (words_of machine.old.memory) machine.old.segment None
+        ≡ None }
+    ensures is { (t : Ideal) → IsAt t machine.old readings.now → (n : ℕ) → service_at_number n ≡ Some service
+        → own_ask service t.core.regs ≡ AskName.Sensor channel → IsAt (served n t) machine.new readings.now }
     ensures marks { machine.new.marks ≤ machine.old.marks + 1 }
     ensures small { machine.new.segment < 32 }
 {

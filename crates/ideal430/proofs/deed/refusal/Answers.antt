@@ -5,4 +5,5 @@ use Rattle.ideal430.proofs.deed.refusal.Goals as goal
 
 pub full-requires-clause-stack : goal.full-requires-clause-stack
 full-requires-clause-stack g c =
-    wild_of-stack c.args.service (view_of c.args.regs.now.r) (g.M.Words.words c.args.memory.now) c.args.segment None (sym (c.in-None.ensures None))
+    wild_of-stack c.args.service (view_of c.args.regs.now.r) (g.M.Words.words c.args.memory.now) c.args.segment None
+    (sym (c.in-None.ensures None))

@@ -7,7 +7,8 @@ use Rattle.ideal430.proofs.machine.run.Goals.{in-Running, in_default}
 
 pub returns-then-not-matches : goal.returns-then-not-matches
 returns-then-not-matches c = λ t at.
-    run_over c.loop-made._made c.args.instrs t c.loop-made.machine c.args.readings.now (omega arith) (c.loop-made.invariant.is t at) (λ e.
+    run_over c.loop-made._made c.args.instrs t c.loop-made.machine c.args.readings.now (omega arith)
+    (c.loop-made.invariant.is t at) (λ e.
     elim c.match-matches.branch [
       | in-Running w ↦ (let h = w.matches-is in let k = c.if-not-matches.true in cc)
       | in_default w ↦ w.in_default.not-Running e
@@ -20,7 +21,8 @@ returns c = λ t at.
 
 pub loop-made-preserved : goal.loop-made-preserved
 loop-made-preserved c = record {
-  is = λ t at. run_turn c.loop-made._made t c.loop-made.machine c.turn.new.machine c.args.readings.now (c.loop-made.invariant.is t at) c.turn.ensures.is;
+  is = λ t at. run_turn c.loop-made._made t c.loop-made.machine c.turn.new.machine c.args.readings.now
+      (c.loop-made.invariant.is t at) c.turn.ensures.is;
   marks = let h = c.turn.ensures.marks in let i = c.loop-made.invariant.marks in omega arith;
   small = c.turn.ensures.small;
 }
