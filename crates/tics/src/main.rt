@@ -1,30 +1,13 @@
 //! The program `tics`: runs C on a board without batteries and reports what happened.
 #![tactic(auto)]
 
-mod accept;
-mod command;
-mod fault;
-mod form;
-mod front;
-mod meaning;
-mod outcome;
-mod parts;
-mod player;
-mod print;
-mod report;
-mod source;
-#[cfg(test)]
-mod tests;
-mod top;
-
 use base16::NoMemory;
 use edge::{HostFiles, StdSink};
 use fram::Fram;
-use outcome::Outcome;
 use std::env;
 use std::process::ExitCode;
 use std::rt::Env;
-use top::tics;
+use tics_call::{NO_MEMORY, tics};
 use world::History;
 
 /// The words after the program's name; none where the host does not tell them as text.
@@ -41,7 +24,7 @@ fn command_words<R: Env + AllocGlobal>(rt: &R) -> Result<Vec<String>, NoMemory> 
 fn main(rt: HostRuntime) -> ExitCode {
     let alloc = rt.alloc();
     let (Ok(words), Ok(mut fram)) = (command_words(&rt), Fram::blank(alloc)) else {
-        return ExitCode::from(Outcome::NoMemory.status());
+        return ExitCode::from(NO_MEMORY);
     };
     let mut files = HostFiles::new(&rt);
     let mut out = StdSink::new(&rt);

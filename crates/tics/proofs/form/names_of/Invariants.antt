@@ -1,7 +1,0 @@
--- the names so far are those of the parts so far
-use Rattle.std.proofs.Common.{take}
-use Rattle.tics.specs.Form.{IsDeclaration, Paired}
-use Rattle.tics.proofs.form.names_of.Given as goal
-
-abbrev pub invariant-loop-part : goal.invariant-loop-part
-invariant-loop-part l = Paired IsDeclaration l.names.items (take l.part-index l.parts)

@@ -1,7 +1,0 @@
--- the stores so far are those of the parts so far
-use Rattle.std.proofs.Common.{take}
-use Rattle.tics.specs.Form.{IsStore, Paired}
-use Rattle.tics.proofs.form.stores_of.Given as goal
-
-abbrev pub invariant-loop-part : goal.invariant-loop-part
-invariant-loop-part l = Paired IsStore l.stores.items (take l.part-index l.parts)

@@ -1,0 +1,5 @@
+pub mod Form
+pub mod Source
+pub mod Run
+pub mod Command
+pub mod Outcome

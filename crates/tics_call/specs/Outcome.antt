@@ -1,0 +1,193 @@
+-- What a call of the program comes to.
+use Rattle.std.specs.Prelude.{◌≡◌, ◌≢◌, ℕ, ◌⊎◌, List, [], ◌∷◌, ◌++◌, Option, Some, None, IsSomeAnd, MatchOption, Result, Ok, Err, codes}
+use Rattle.edge.specs.Counts.{HasRisen}
+use Rattle.edge.specs.Told.{Drive, Appends, AppendsFront}
+use Rattle.edge.specs.declared.sink.SinkErr.{SinkErr}
+use Rattle.edge.specs.declared.sink.SinkErr.TheVariants.{Failed, NoMemory as SinkNoMemory}
+use Rattle.world.specs.declared.history.Record.{Record}
+use Rattle.tics_call.specs.declared.outcome.Outcome.{Outcome}
+use Rattle.tics_call.specs.declared.outcome.Outcome.TheVariants.{Done, Refused, Usage, ReadFault, WriteFault, NoMemory, Unsupported}
+use Rattle.tics_call.specs.declared.fault.SourceFault.{SourceFault}
+use Rattle.tics_call.specs.declared.source.Program.{Program}
+use Rattle.tics_call.specs.Form.{IsProgram, IsOfForm, IsOther}
+use Rattle.report.specs.Report.{report}
+use Rattle.tics_call.specs.Run.{history_of, symbols_of}
+use Rattle.tics_call.specs.Source.{IsRefused, refusal_text}
+
+-- ---- the texts
+abbrev pub usage_text : List ℕ
+usage_text = codes "usage" ++ 10 ∷ []
+
+abbrev pub fault_text : List ℕ
+fault_text = codes "fault read" ++ 10 ∷ []
+
+abbrev pub unsupported_text : List ℕ
+unsupported_text = codes "unsupported" ++ 10 ∷ []
+
+-- the one trace that is accepted
+abbrev pub plain_trace : List ℕ
+plain_trace = codes "tics-trace 1" ++ 10 ∷ (codes "rate 4000000" ++ 10 ∷
+    (codes "period 4000000" ++ 10 ∷ (codes "cycle 100000 0" ++ 10 ∷ [])))
+
+abbrev pub report_of : Program → List ℕ
+report_of program = report (symbols_of program).scalars (history_of program)
+
+-- ---- the files
+-- Where files are told, this one is there and P holds of it.
+abbrev pub HoldsAt : Option Drive → List ℕ → (List ℕ → Type 0) → Type 0
+HoldsAt files name P = MatchOption files (Unit {0}) (λ drive. IsSomeAnd (drive name) P)
+
+-- The source is this program, and the trace is the plain one.
+pub record Accepts (files : Option Drive) (command : List ℕ × List ℕ) (program : Program) : Type 0 where
+  pub program_is : IsProgram program
+  pub source : HoldsAt files command.0 (λ text. IsOfForm text program)
+  pub trace : HoldsAt files command.1 (λ text. text ≡ plain_trace)
+
+-- The source is refused for this reason.
+abbrev pub Refuses : Option Drive → List ℕ × List ℕ → SourceFault → Type 0
+Refuses files command reason = HoldsAt files command.0 (λ text. IsRefused text reason)
+
+-- The source has a tree that is no program, or it is a program and the trace is not the plain one.
+abbrev pub IsUnsupported : Option Drive → List ℕ × List ℕ → Type 0
+IsUnsupported files command =
+    HoldsAt files command.0 IsOther
+    ⊎ ((program : Program) × HoldsAt files command.0 (λ text. IsOfForm text program) × HoldsAt files command.1
+    (λ text. text ≢ plain_trace))
+
+-- The read that failed is that of the source, or that of the trace of a source that is a program.
+abbrev pub NamesRead : Option Drive → List ℕ × List ℕ → Option (List ℕ) → Type 0
+NamesRead files command last =
+    (last ≡ Some command.0)
+    ⊎ ((last ≡ Some command.1) × (program : Program) × IsProgram program × HoldsAt files command.0
+    (λ text. IsOfForm text program))
+
+-- ---- a call
+-- What is seen of a call: the files and the command line before it, the counts of faults and the bytes put before and
+-- after it, the name of the last read that failed, and the records of the book.
+pub record Seen : Type 0 where
+  pub files : Option Drive
+  pub command : Option (List ℕ × List ℕ)
+  pub faults : ℕ
+  pub faults_after : ℕ
+  pub last : Option (List ℕ)
+  pub bytes : Option (List ℕ)
+  pub bytes_after : Option (List ℕ)
+  pub put_faults : ℕ
+  pub put_faults_after : ℕ
+  pub records : List Record
+  pub records_after : List Record
+
+-- a call as it is seen by what files and sinks tell of themselves
+abbrev pub seen_by : {F K : Type 0} → (F → Option Drive) → (F → ℕ) → (F → Option (List ℕ)) → (K → Option (List ℕ)) → (K → ℕ)
+    → Option (List ℕ × List ℕ) → F → F → K → K → List Record → List Record → Seen
+seen_by contents faults last bytes put_faults command files files_after out out_after records records_after = record {
+  files = contents files;
+  command = command;
+  faults = faults files;
+  faults_after = faults files_after;
+  last = last files_after;
+  bytes = bytes out;
+  bytes_after = bytes out_after;
+  put_faults = put_faults out;
+  put_faults_after = put_faults out_after;
+  records = records;
+  records_after = records_after;
+}
+
+-- an accepted program was run
+pub record HasRun (files : Option Drive) (command : Option (List ℕ × List ℕ)) (records : List Record)
+    (program : Program) : Type 0 where
+  pub accepted : IsSomeAnd command (λ c. Accepts files c program)
+  pub history : records ≡ history_of program
+
+-- the texts that a call may have begun to print, each with its cause
+pub data IsText (files : Option Drive) (command : Option (List ℕ × List ℕ)) (faults faults_after : ℕ)
+    (records : List Record) : List ℕ → Type 0 where
+  refused : (reason : SourceFault) → IsSomeAnd command (λ c. Refuses files c reason)
+      → IsText files command faults faults_after records (refusal_text reason)
+  usage : command ≡ None → IsText files command faults faults_after records usage_text
+  fault : HasRisen faults faults_after → IsText files command faults faults_after records fault_text
+  unsupported : IsSomeAnd command (λ c. IsUnsupported files c) → IsText files command faults faults_after records unsupported_text
+  printed : (program : Program) → HasRun files command records program
+      → IsText files command faults faults_after records (report_of program)
+
+-- a front of a text that has one of these causes
+pub record IsFrontOfText (files : Option Drive) (command : Option (List ℕ × List ℕ)) (faults faults_after : ℕ)
+    (records : List Record) (bytes bytes_after : Option (List ℕ)) : Type 0 where
+  pub text : List ℕ
+  pub cause : IsText files command faults faults_after records text
+  pub front : AppendsFront bytes bytes_after text
+
+-- the book is as before, or holds the whole history of an accepted program
+abbrev pub IsBook : Seen → Type 0
+IsBook seen = (seen.records_after ≡ seen.records) ⊎ ((program : Program)
+    × HasRun seen.files seen.command seen.records_after program)
+
+-- A front of one of the texts was put.
+abbrev pub PutsFront : Seen → Type 0
+PutsFront seen = IsFrontOfText seen.files seen.command seen.faults seen.faults_after seen.records_after seen.bytes
+    seen.bytes_after
+
+pub record IsDone (seen : Seen) : Type 0 where
+  pub program : Program
+  pub run : HasRun seen.files seen.command seen.records_after program
+  pub printed : Appends seen.bytes seen.bytes_after (report_of program)
+
+pub record IsSourceRefused (seen : Seen) (reason : SourceFault) : Type 0 where
+  pub cause : IsSomeAnd seen.command (λ c. Refuses seen.files c reason)
+  pub text : Appends seen.bytes seen.bytes_after (refusal_text reason)
+  pub book : seen.records_after ≡ seen.records
+
+pub record IsUsage (seen : Seen) : Type 0 where
+  pub words : seen.command ≡ None
+  pub text : Appends seen.bytes seen.bytes_after usage_text
+  pub book : seen.records_after ≡ seen.records
+
+pub record IsReadFault (seen : Seen) : Type 0 where
+  pub risen : HasRisen seen.faults seen.faults_after
+  pub named : IsSomeAnd seen.command (λ c. NamesRead seen.files c seen.last)
+  pub text : Appends seen.bytes seen.bytes_after fault_text
+  pub book : seen.records_after ≡ seen.records
+
+pub record IsWriteFault (seen : Seen) : Type 0 where
+  pub risen : HasRisen seen.put_faults seen.put_faults_after
+  pub front : PutsFront seen
+  pub book : IsBook seen
+
+pub record IsNoMemory (seen : Seen) : Type 0 where
+  pub front : (seen.bytes_after ≡ seen.bytes) ⊎ PutsFront seen
+  pub book : IsBook seen
+
+pub record IsNotSupported (seen : Seen) : Type 0 where
+  pub cause : IsSomeAnd seen.command (λ c. IsUnsupported seen.files c)
+  pub text : Appends seen.bytes seen.bytes_after unsupported_text
+  pub book : seen.records_after ≡ seen.records
+
+-- what the call comes to
+abbrev pub ComesTo : Seen → Outcome → Type 0
+ComesTo seen Done = IsDone seen
+ComesTo seen (Refused reason) = IsSourceRefused seen reason
+ComesTo seen Usage = IsUsage seen
+ComesTo seen ReadFault = IsReadFault seen
+ComesTo seen WriteFault = IsWriteFault seen
+ComesTo seen NoMemory = IsNoMemory seen
+ComesTo seen Unsupported = IsNotSupported seen
+
+-- the outcome of a call that put its text
+abbrev pub said : Result (Unit {0}) SinkErr → Outcome → Outcome
+said (Ok x) outcome = outcome
+said (Err Failed) outcome = WriteFault
+said (Err SinkNoMemory) outcome = NoMemory
+
+abbrev pub status_of : Outcome → ℕ
+status_of Done = 0
+status_of (Refused reason) = 1
+status_of Usage = 2
+status_of ReadFault = 8
+status_of WriteFault = 9
+status_of NoMemory = 10
+status_of Unsupported = 13
+
+-- one of the statuses that a call may end with
+abbrev pub IsStatus : ℕ → Type 0
+IsStatus n = (n ≡ 0) ⊎ (n ≡ 1) ⊎ (n ≡ 2) ⊎ (n ≡ 8) ⊎ (n ≡ 9) ⊎ (n ≡ 10) ⊎ (n ≡ 13)
