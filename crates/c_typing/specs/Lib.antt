@@ -1,0 +1,9 @@
+pub mod Calls
+pub mod Expressions
+pub mod FirstFault
+pub mod Operators
+pub mod Outcome
+pub mod Places
+pub mod Scopes
+pub mod TypeNames
+pub mod Values
