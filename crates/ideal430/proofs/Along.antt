@@ -97,35 +97,36 @@ store_address-even (Word a w) e = e
 store_address-even (Byte a v) e = omega arith
 store_address-even (Link a w) e = e
 
-note-same : (p : Bytes) (m k : ℕ → ℕ) (a : ℕ) → a % 2 ≡ 0 → SameOn p m k
+note-same : (p : Bytes) (m k : ℕ → ℕ) (a : ℕ) → a % 2 ≡ 0 → IsWithin is_fixed p → SameOn p m k
     → NotesSame p (record { address = a; old = m a }) (record { address = a; old = k a })
-note-same p m k a e s = record {
+note-same p m k a e f s = record {
+  fixed = f;
   address = refl;
   old = λ b i j. let w = two-bytes a b e i in subst (λ (c : ℕ). byte_in b (m c) ≡ byte_in b (k c)) w (s.at b j);
 }
 
-noted_in-agree : (p : Bytes) (m k : ℕ → ℕ) (stores : List Store) → AreEven stores → SameOn p m k
+noted_in-agree : (p : Bytes) (m k : ℕ → ℕ) (stores : List Store) → AreEven stores → IsWithin is_fixed p → SameOn p m k
     → NotesAgree (map (λ s. p) stores) (noted_in m stores) (noted_in k stores)
-noted_in-agree p m k [] e s = tt
-noted_in-agree p m k (x ∷ rest) e s = (
-  note-same p m k (store_address x) (store_address-even x e.0) s,
-  noted_in-agree p (store_in m x) (store_in k x) rest e.1
+noted_in-agree p m k [] e f s = tt
+noted_in-agree p m k (x ∷ rest) e f s = (
+  note-same p m k (store_address x) (store_address-even x e.0) f s,
+  noted_in-agree p (store_in m x) (store_in k x) rest e.1 f
       (same-fewer (joined p (store_bytes x)) p _ _ (store-same p m k x e.0 s) (λ b h. or-left (p b) _ h)),
 )
 
 blocks-after : (change : BlockChange) (noted : Bool) (earlier : List Bytes) (p : Bytes) (m k : ℕ → ℕ) (stores : List Store)
     (b c : Block)
-    → AreEven stores → SameOn p m k → BlocksAgree earlier b c
+    → AreEven stores → IsWithin is_fixed p → SameOn p m k → BlocksAgree earlier b c
     → BlocksAgree (earlier_by change (is_open b && noted) (map (λ s. p) stores) earlier) (block_by change noted stores m b)
     (block_by change noted stores k c)
-blocks-after Opens noted earlier p m k stores b c e s h = tt
-blocks-after Closes noted earlier p m k stores b c e s h = tt
-blocks-after Stays noted earlier p m k stores None None e s h = tt
-blocks-after Stays noted earlier p m k stores None (Some ys) e s h = absurd h
-blocks-after Stays noted earlier p m k stores (Some xs) None e s h = absurd h
-blocks-after Stays true earlier p m k stores (Some xs) (Some ys) e s h = NotesAgree-append earlier _ xs ys _ _ h
-    (noted_in-agree p m k stores e s)
-blocks-after Stays false earlier p m k stores (Some xs) (Some ys) e s h = h
+blocks-after Opens noted earlier p m k stores b c e f s h = tt
+blocks-after Closes noted earlier p m k stores b c e f s h = tt
+blocks-after Stays noted earlier p m k stores None None e f s h = tt
+blocks-after Stays noted earlier p m k stores None (Some ys) e f s h = absurd h
+blocks-after Stays noted earlier p m k stores (Some xs) None e f s h = absurd h
+blocks-after Stays true earlier p m k stores (Some xs) (Some ys) e f s h = NotesAgree-append earlier _ xs ys _ _ h
+    (noted_in-agree p m k stores e f s)
+blocks-after Stays false earlier p m k stores (Some xs) (Some ys) e f s h = h
 
 NotesAgree-length : (f : List Bytes) (xs ys : List Noted) → NotesAgree f xs ys → length xs ≡ length ys
 NotesAgree-length [] [] [] h = refl
@@ -167,6 +168,7 @@ did-agrees t e r m segment block marks even n a = record {
   memory = same-fewer _ _ _ _ (stores-same t.settled t.core.memory m e.stores even a.memory) (did-settled t e n a.fixed);
   segment_is = refl;
   block_is = blocks-after e.block e.noted t.earlier (settled_popped t) t.core.memory m e.stores t.block block even
+      (after-fixed t.segment (t.core.regs 1 + 2) t.pointers no_bytes t.settled)
       (same-fewer t.settled (settled_popped t) t.core.memory m a.memory (popped-within t a.fixed)) a.block_is;
   marks_are = ap (λ x. if e.marks then x + 1 else x) a.marks_are;
   fixed = after-fixed e.segment (e.regs 1) (pointers_after t e) (settled_new t e) (settled_old t e);

@@ -9,8 +9,10 @@ use Rattle.core430.specs.Uses.{SameOn}
 use Rattle.ideal430.specs.Ideal.{Ideal, run, with_more}
 use Rattle.ideal430.specs.Uses.{IsClean}
 
--- a noted word, and another: of the same address, with the same old bytes where they were settled
+-- a noted word, and another: of the same address, with the same old bytes where they were settled; the outputs, the data
+-- and the code were
 pub record NotesSame (settled : Bytes) (x y : Noted) : Type 0 where
+  pub fixed : (b : ℕ) → is_fixed b ≡ true → settled b ≡ true
   pub address : x.address ≡ y.address
   pub old : (b : ℕ) → is_in_word x.address b ≡ true → settled b ≡ true → byte_in b x.old ≡ byte_in b y.old
 
