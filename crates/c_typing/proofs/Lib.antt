@@ -1,1 +1,2 @@
+pub mod LawfulOperators
 pub mod Walked

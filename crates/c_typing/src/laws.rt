@@ -1,7 +1,14 @@
+ghost use Rattle.std.specs.Prelude.{ℕ};
+ghost use Rattle.base16.specs.declared.integer.IntType.{IntType};
+ghost use Rattle.base16.specs.declared.operator.UnaryOp.{UnaryOp};
+ghost use Rattle.base16.specs.declared.operator.BinaryOp.{BinaryOp};
+ghost use Rattle.core_tree.specs.declared.expressions.Expr.{Expr};
+ghost use Rattle.core_tree.specs.Lawful.{Scope};
 ghost use Rattle.c_tree.specs.declared.expression.Expr.{Expr as Source};
 ghost use Rattle.c_typing.specs.declared.environment.Env.{Env};
 ghost use Rattle.c_typing.specs.declared.fault.Fault.{Fault};
 ghost use Rattle.c_typing.specs.FirstFault.{IsWalked, FaultIsFirst};
+ghost use Rattle.c_typing.specs.LawfulRows.{IntegersAreLawful, ArithmeticIsLawful, LogicalIsLawful, SequenceIsLawful};
 
 /// An expression is what the row of its node makes of its operands.
 pub fn expressions_are_walked()
@@ -12,4 +19,25 @@ pub fn expressions_are_walked()
 /// row and at its line.
 pub fn faults_are_the_first()
     ensures { (env : Env) → (e : Source) → (f : Fault) → FaultIsFirst env e f }
+{}
+
+/// A binary operator makes a lawful expression of two lawful integers.
+pub fn integers_are_lawful()
+    ensures { (s : Scope) → (op : BinaryOp) → (line : ℕ) → (x : IntType) → (y : IntType) → (a : Expr) → (b : Expr)
+        → IntegersAreLawful s op line x a y b }
+{}
+
+/// `+`, `-` and `~` make a lawful expression of a lawful integer.
+pub fn arithmetic_is_lawful()
+    ensures { (s : Scope) → (op : UnaryOp) → (line : ℕ) → (x : IntType) → (e : Expr) → ArithmeticIsLawful s op line x e }
+{}
+
+/// `&&` and `||` make lawful expressions of lawful ones.
+pub fn logical_is_lawful()
+    ensures { (s : Scope) → (line : ℕ) → (a : Expr) → (b : Expr) → (made : Expr) → LogicalIsLawful s line a b made }
+{}
+
+/// The comma makes a lawful expression of lawful ones.
+pub fn sequence_is_lawful()
+    ensures { (s : Scope) → (line : ℕ) → (a : Expr) → (b : Expr) → (made : Expr) → SequenceIsLawful s line a b made }
 {}
