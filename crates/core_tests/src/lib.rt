@@ -1,8 +1,10 @@
-//! Tests of the 16-bit core: single steps, runs of several, the helper routines, and the assembler.
+//! Tests of the 16-bit core: single steps, runs of several, the helper routines, the assembler, and runs with unbroken power.
 #![tactic(auto)]
 
 #[cfg(test)]
 mod assembler;
+#[cfg(test)]
+mod ideal;
 #[cfg(test)]
 mod routines;
 #[cfg(test)]
