@@ -1,2 +1,4 @@
+pub mod Examples
+pub mod LawfulOperands
 pub mod LawfulOperators
 pub mod Walked

@@ -1,6 +1,7 @@
 pub mod Calls
 pub mod Expressions
 pub mod FirstFault
+pub mod LawfulPlaces
 pub mod LawfulRows
 pub mod Operators
 pub mod Outcome
