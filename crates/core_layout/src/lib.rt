@@ -1,8 +1,10 @@
 //! Where the variables of a program stand: the layouts of types, and the scalars of the variables with their names.
 #![tactic(auto)]
 
+mod laws;
 mod layouts;
 #[cfg(test)]
 mod tests;
 
+pub use laws::{scalars_are_aligned, scalars_fit, scalars_rise, sizes_are_even};
 pub use layouts::{Laid, slots_of, structs_laid};
