@@ -2,6 +2,8 @@
 use Rattle.std.proofs.Common.{◌≡◌, ℕ, zero, suc, ◌+◌, ◌-◌, ◌*◌, ◌<◌, ◌≤◌, min, List, [], ◌∷◌, ◌++◌, length, length-append, get_or, take, map, ap, sym, refl, ◌∙◌, arith, rules, append_assoc}
 use Rattle.std.specs.Prelude.{Option, Some, None, Result, Ok, IfOk, IfSome}
 use Rattle.std.proofs.lemmas.List.{take_more, map_more, map-append, get_or_past}
+use Rattle.std.specs.List.{AllZip}
+use Rattle.core_layout.proofs.Zipped.{zip_at, zip-last, length-zip}
 use Rattle.core_tree.specs.declared.types.Slot.{Slot}
 use Rattle.core_tree.specs.declared.types.Struct.{Struct}
 use Rattle.core_tree.specs.declared.types.Member.{Member}
@@ -10,7 +12,7 @@ use Rattle.core_tree.specs.declared.types.Ty.TheVariants as ty
 use Rattle.core_tree.specs.Layout.{Layout, copies, moved_by, nothing, layout_in, with_member, with_members, member_layouts, layouts_from, layouts, struct_layout}
 use Rattle.core_layout.specs.declared.layouts.Laid.{Laid}
 use Rattle.core_layout.specs.declared.layouts.Unlaid.{Unlaid}
-use Rattle.core_layout.specs.Laid.{layout_of, array, IsKept, AreKept, IsLaid}
+use Rattle.core_layout.specs.Laid.{layout_of, array, Keeps, IsLaid}
 
 pub moved_turn : (slots : List Slot) (by i : ℕ) (d : Slot) → i < length slots
     → map (moved_by by) (take (i + 1) slots) ≡ map (moved_by by) (take i slots) ++ moved_by by (get_or slots i d) ∷ []
@@ -114,45 +116,24 @@ layouts_turn : (ss : List Struct) (i : ℕ) (d : Struct) → i < length ss
     → layouts (take (i + 1) ss) ≡ layouts (take i ss) ++ struct_layout (layouts (take i ss)) (get_or ss i d) ∷ []
 layouts_turn ss i d h = rw (take_more ss i d h) (layouts-last [] (take i ss) (get_or ss i d))
 
-at_kept : (ks : List (Option Laid)) (ls : List Layout) (i : ℕ) (d : Option Laid) → AreKept ks ls → i < length ks
-    → IsKept (get_or ks i d) (get_or ls i nothing)
-at_kept [] ls i d all h = absurd (omega arith)
-at_kept (k ∷ ks) [] i d all h = absurd all
-at_kept (k ∷ ks) (l ∷ ls) zero d all h = all.0
-at_kept (k ∷ ks) (l ∷ ls) (suc i) d all h = at_kept ks ls i d all.1 (omega arith)
-
-past_kept : (ks : List (Option Laid)) (ls : List Layout) (i : ℕ) → AreKept ks ls → length ks ≤ i → get_or ls i nothing ≡ nothing
-past_kept [] [] i all h = get_or_past [] i nothing (omega arith)
-past_kept [] (l ∷ ls) i all h = absurd all
-past_kept (k ∷ ks) [] i all h = absurd all
-past_kept (k ∷ ks) (l ∷ ls) zero all h = absurd (omega arith)
-past_kept (k ∷ ks) (l ∷ ls) (suc i) all h = past_kept ks ls i all.1 (omega arith)
-
-one_kept : (ks : List (Option Laid)) (ls : List Layout) (k : Option Laid) (l : Layout) → AreKept ks ls → IsKept k l
-    → AreKept (ks ++ k ∷ []) (ls ++ l ∷ [])
-one_kept [] [] k l all one = (one, tt)
-one_kept [] (m ∷ ls) k l all one = absurd all
-one_kept (j ∷ ks) [] k l all one = absurd all
-one_kept (j ∷ ks) (m ∷ ls) k l all one = (all.0, one_kept ks ls k l all.1 one)
-
 -- the struct that is kept at a number
 pub kept_at : (structs : List Struct) (known : List (Option Laid)) (at : ℕ) (kept : Option Laid) (made : Laid)
     → IsLaid known structs → at < length known → kept ≡ get_or known at kept → kept ≡ Some made
     → layout_of made ≡ get_or (layouts structs) at nothing
 kept_at structs known at kept made all h is some =
-    let here : IsKept (get_or known at kept) (get_or (layouts structs) at nothing) = at_kept known (layouts structs) at kept all.kept h in
+    let here : Keeps layout_of (get_or known at kept) (get_or (layouts structs) at nothing) =
+    zip_at (Keeps layout_of) known (layouts structs) at kept nothing all.kept h in
     let found : get_or known at kept ≡ Some made = sym is ∙ some in
     rw found at here
 
 pub kept_past : (structs : List Struct) (known : List (Option Laid)) (at : ℕ) → IsLaid known structs → length known ≤ at
     → nothing ≡ get_or (layouts structs) at nothing
-kept_past structs known at all h = sym (past_kept known (layouts structs) at all.kept h)
-
-pub no_structs : (structs : List Struct) → IsLaid [] (take 0 structs)
-no_structs structs = record { kept = tt }
+kept_past structs known at all h =
+    let same : length known ≡ length (layouts structs) = length-zip (Keeps layout_of) known (layouts structs) all.kept in
+    sym (get_or_past (layouts structs) at nothing (omega arith))
 
 is_kept : (kept : Option Laid) (next : Result Laid Unlaid) (l : Layout) → IfOk next (λ made. layout_of made ≡ l)
-    → IfSome kept (λ made. next ≡ Ok made) → IsKept kept l
+    → IfSome kept (λ made. next ≡ Ok made) → Keeps layout_of kept l
 is_kept None next l all one = tt
 is_kept (Some made) next l all one = rw one at all
 
@@ -163,8 +144,8 @@ pub structs_step : (structs : List Struct) (known more : List (Option Laid)) (i 
     → IfSome kept (λ made. next ≡ Ok made) → more ≡ known ++ kept ∷ [] → IsLaid more (take (i + 1) structs)
 structs_step structs known more i of kept next h is all made one e =
     let l : Layout = struct_layout (layouts (take i structs)) of in
-    let these : AreKept (known ++ kept ∷ []) (layouts (take i structs) ++ l ∷ []) =
-    one_kept known (layouts (take i structs)) kept l all.kept (is_kept kept next l made one) in
+    let these : AllZip (Keeps layout_of) (known ++ kept ∷ []) (layouts (take i structs) ++ l ∷ []) =
+    zip-last (Keeps layout_of) known (layouts (take i structs)) kept l all.kept (is_kept kept next l made one) in
     let whole : layouts (take (i + 1) structs) ≡ layouts (take i structs) ++ l ∷ [] =
     layouts_turn structs i of h ∙ ap (λ (s : Struct). layouts (take i structs) ++ struct_layout (layouts (take i structs)) s ∷ []) (sym is) in
     record { kept = rw (e, whole) these }

@@ -1,2 +1,5 @@
 mod Laying
 mod Lying
+mod Naming
+mod Placing
+mod Zipped

@@ -274,7 +274,7 @@ fn if_small(laid: Result<Laid, Unlaid>) -> Result<Option<Laid>, NoMemory>
 }
 
 /// The layouts of all structs, none for one that has more than 16,383 bytes: no object has its type.
-#[tactic(auto, using(crate::proofs::Laying::structs_step, crate::proofs::Laying::no_structs))]
+#[tactic(auto, using(crate::proofs::Laying::structs_step))]
 pub fn structs_laid(alloc: Global, structs: &[Struct]) -> Result<Sequence<Option<Laid>>, NoMemory>
     ensures { IfOk result (λ known. IsLaid known structs.now) }
 {
@@ -284,6 +284,23 @@ pub fn structs_laid(alloc: Global, structs: &[Struct]) -> Result<Sequence<Option
         known.push(if_small(next)?)?;
     }
     Ok(known)
+}
+
+/// The layout of a type of at most 16,383 bytes, where the structs are laid out; for a bigger one the answer is
+/// `NoMemory`.
+pub fn laid_type(
+    alloc: Global,
+    _structs: &[Struct],
+    known: &[Option<Laid>],
+    ty: &Ty,
+) -> Result<Laid, NoMemory>
+    requires { IsLaid known.now _structs.now }
+    ensures { IfOk result (λ made. layout_of made ≡ spec.layout _structs.now ty.now) }
+{
+    match type_laid(alloc, _structs, known, ty) {
+        Ok(made) => Ok(made),
+        Err(_) => Err(NoMemory),
+    }
 }
 
 /// The scalars of a type of at most 16,383 bytes, where the structs are laid out; for a bigger one the answer is
@@ -297,8 +314,6 @@ pub fn slots_of(
     requires { IsLaid known.now _structs.now }
     ensures { IfOk result (λ slots. slots ≡ (spec.layout _structs.now ty.now).slots) }
 {
-    match type_laid(alloc, _structs, known, ty) {
-        Ok(Laid { slots, .. }) => Ok(slots),
-        Err(_) => Err(NoMemory),
-    }
+    let Laid { slots, .. } = laid_type(alloc, _structs, known, ty)?;
+    Ok(slots)
 }

@@ -3,8 +3,12 @@
 
 mod laws;
 mod layouts;
+mod names;
 #[cfg(test)]
 mod tests;
+mod texts;
+mod variables;
 
 pub use laws::{scalars_are_aligned, scalars_fit, scalars_rise, sizes_are_even};
 pub use layouts::{Laid, slots_of, structs_laid};
+pub use variables::scalars;

@@ -4,7 +4,6 @@
 mod expressions;
 mod extent;
 mod kinds;
-mod laid;
 mod measure;
 mod measure_expressions;
 mod measure_statements;
