@@ -22,7 +22,8 @@ copies_turn : (n i at : ℕ) (of : Layout) → i < n
     → copies (n - i) at of ≡ map (moved_by at) of.slots ++ copies (n - (i + 1)) (at + of.size) of
 copies_turn n i at of h = let s : n - i ≡ suc (n - (i + 1)) = omega arith in ap (λ k. copies k at of) s
 
-pub copies_step : (n i at by next : ℕ) (of : Layout) (total slots more : List Slot) → i < n → total ≡ slots ++ copies (n - i) at of
+pub copies_step : (n i at by next : ℕ) (of : Layout) (total slots more : List Slot) → i < n
+    → total ≡ slots ++ copies (n - i) at of
     → by ≡ at → more ≡ slots ++ map (moved_by by) of.slots → next ≡ by + of.size → total ≡ more ++ copies (n - (i + 1)) next of
 copies_step n i at by next of total slots more h e same f g =
     let start : next ≡ at + of.size = omega arith in
@@ -40,7 +41,8 @@ moved_twice by at [] = refl
 moved_twice by at (x ∷ xs) =
     let o : x.offset + at + by ≡ x.offset + (at + by) = omega arith in
     let slot : ℕ → Slot = λ n. record { offset = n; kind = x.kind } in
-    ap (λ (n : ℕ). slot n ∷ map (moved_by by) (map (moved_by at) xs)) o ∙ ap (λ ys. moved_by (at + by) x ∷ ys) (moved_twice by at xs)
+    ap (λ (n : ℕ). slot n ∷ map (moved_by by) (map (moved_by at) xs)) o
+    ∙ ap (λ ys. moved_by (at + by) x ∷ ys) (moved_twice by at xs)
 
 moved_copies : (n at by : ℕ) (of : Layout) → map (moved_by by) (copies n at of) ≡ copies n (at + by) of
 moved_copies zero at by of = refl
@@ -68,7 +70,8 @@ array_array : (n m : ℕ) (of : Layout) → array n (array m of) ≡ array (n * 
 array_array n m of =
     let made : ℕ → List Slot → Layout = λ s xs. record { size = s; even = of.even; slots = xs } in
     let e : n * (m * of.size) ≡ n * m * of.size = omega arith in
-    ap (λ (s : ℕ). made s (copies n 0 (array m of))) e ∙ ap (λ (xs : List Slot). made (n * m * of.size) xs) (copies_product n m 0 of)
+    ap (λ (s : ℕ). made s (copies n 0 (array m of))) e
+    ∙ ap (λ (xs : List Slot). made (n * m * of.size) xs) (copies_product n m 0 of)
 
 moved_none : (xs : List Slot) → map (moved_by 0) xs ++ [] ≡ xs
 moved_none [] = refl
@@ -95,14 +98,16 @@ pub array_in : (known : List Layout) (t of : Ty) (count more n : ℕ) (whole : L
     → array count (layout_in known t) ≡ whole → array n (layout_in known of) ≡ whole
 array_in known t of count more n whole e m h =
     let one : layout_in known t ≡ array more (layout_in known of) = ap (layout_in known) e ∙ layout-Array known of more in
-    ap (λ (k : ℕ). array k (layout_in known of)) m ∙ sym (array_array count more (layout_in known of)) ∙ ap (array count) (sym one) ∙ h
+    ap (λ (k : ℕ). array k (layout_in known of)) m ∙ sym (array_array count more (layout_in known of))
+    ∙ ap (array count) (sym one) ∙ h
 
 -- ---- what is kept of the structs
 
 length-layouts_from : (known : List Layout) (ss : List Struct) → length (layouts_from known ss) ≡ length known + length ss
 length-layouts_from known [] = omega arith
 length-layouts_from known (s ∷ ss) =
-    length-layouts_from (known ++ struct_layout known s ∷ []) ss ∙ (rw (length-append known (struct_layout known s ∷ [])) (omega arith))
+    length-layouts_from (known ++ struct_layout known s ∷ []) ss
+    ∙ (rw (length-append known (struct_layout known s ∷ [])) (omega arith))
 
 length-layouts : (ss : List Struct) → length (layouts ss) ≡ length ss
 length-layouts ss = length-layouts_from [] ss ∙ (omega arith)
@@ -147,7 +152,8 @@ structs_step structs known more i of kept next h is all made one e =
     let these : AllZip (Keeps layout_of) (known ++ kept ∷ []) (layouts (take i structs) ++ l ∷ []) =
     zip-last (Keeps layout_of) known (layouts (take i structs)) kept l all.kept (is_kept kept next l made one) in
     let whole : layouts (take (i + 1) structs) ≡ layouts (take i structs) ++ l ∷ [] =
-    layouts_turn structs i of h ∙ ap (λ (s : Struct). layouts (take i structs) ++ struct_layout (layouts (take i structs)) s ∷ []) (sym is) in
+    layouts_turn structs i of h
+    ∙ ap (λ (s : Struct). layouts (take i structs) ++ struct_layout (layouts (take i structs)) s ∷ []) (sym is) in
     record { kept = rw (e, whole) these }
 
 with_last : (before : Layout) (ls : List Layout) (l : Layout)

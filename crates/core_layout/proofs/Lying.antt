@@ -62,13 +62,14 @@ lie_copies (suc n) at of l =
     let first : Lie (0 + at) (of.size + at) (map (moved_by at) of.slots) = lie_moved at 0 of.size of.slots l in
     let start : 0 + at ≡ at = omega arith in
     let end : at + of.size + n * of.size ≡ at + suc n * of.size = omega arith in
-    let rest : Lie (at + of.size) (at + of.size + n * of.size) (copies n (at + of.size) of) = lie_copies n (at + of.size) of l in
+    let rest : Lie (at + of.size) (at + of.size + n * of.size) (copies n (at + of.size) of) =
+    lie_copies n (at + of.size) of l in
     let P : ℕ → Type 0 = λ m. Lie m (of.size + at) (map (moved_by at) of.slots) in
     let Q : ℕ → Type 0 = λ m. Lie (at + of.size) m (copies n (at + of.size) of) in
     lie_append at (of.size + at) (at + of.size) (at + suc n * of.size) (map (moved_by at) of.slots) (copies n (at + of.size) of)
     (subst P start first) (omega arith) (subst Q end rest)
 
-past_aligned : (even : Bool) (n : ℕ) → n ≤ aligned even n
+pub past_aligned : (even : Bool) (n : ℕ) → n ≤ aligned even n
 past_aligned true n = omega arith
 past_aligned false n = omega arith
 
@@ -137,7 +138,8 @@ Closed false size = Unit {0}
 
 stand_moved : (even : Bool) (by : ℕ) (xs : List Slot) → Closed even by → Stand even xs → Stand even (map (moved_by by) xs)
 stand_moved true by xs c h =
-    every_map Aligned (moved_by by) xs (every_weaker Aligned (λ s. Aligned (moved_by by s)) (λ s a. moved_width s.kind s.offset by a c) xs h)
+    every_map Aligned (moved_by by) xs
+    (every_weaker Aligned (λ s. Aligned (moved_by by s)) (λ s a. moved_width s.kind s.offset by a c) xs h)
 stand_moved false by xs c h = every_map Plain (moved_by by) xs h
 
 stand_append : (even : Bool) (xs ys : List Slot) → Stand even xs → Stand even ys → Stand even (xs ++ ys)
@@ -159,9 +161,11 @@ closed_sum false a b h k = tt
 closed_times : (even : Bool) (n size : ℕ) → Closed even size → Closed even (n * size)
 closed_times even zero size h = let z : 0 * size ≡ 0 = omega arith in rw z (closed_none even)
 closed_times even (suc n) size h =
-    let s : suc n * size ≡ size + n * size = omega arith in rw s (closed_sum even size (n * size) h (closed_times even n size h))
+    let s : suc n * size ≡ size + n * size = omega arith in
+    rw s (closed_sum even size (n * size) h (closed_times even n size h))
 
-stand_copies : (n at : ℕ) (of : Layout) → Closed of.even at → Closed of.even of.size → Stand of.even of.slots → Stand of.even (copies n at of)
+stand_copies : (n at : ℕ) (of : Layout) → Closed of.even at → Closed of.even of.size → Stand of.even of.slots
+    → Stand of.even (copies n at of)
 stand_copies zero at of a c h = stand_none of.even
 stand_copies (suc n) at of a c h =
     stand_append of.even (map (moved_by at) of.slots) (copies n (at + of.size) of) (stand_moved of.even at of.slots a h)
@@ -253,10 +257,12 @@ module _ (known : List Layout) (all : Every Sound known) where
   layer fa ha (Ty-F.Num t) =
       let e : layout_in known (roll-Ty (Ty-F.Num t)) ≡ integer t = search (rules, the_lemmas) in rw e (sound_integer t)
   layer fa ha (Ty-F.Pointer to readonly) =
-      let e : layout_in known (roll-Ty (Ty-F.Pointer (fa to) readonly)) ≡ scalar kind.Pointer 2 true = search (rules, the_lemmas) in
+      let e : layout_in known (roll-Ty (Ty-F.Pointer (fa to) readonly)) ≡ scalar kind.Pointer 2 true =
+      search (rules, the_lemmas) in
       rw e (sound_word kind.Pointer refl)
   layer fa ha (Ty-F.Array of count) =
-      let e : layout_in known (roll-Ty (Ty-F.Array (fa of) count)) ≡ array count (layout_in known (fa of)) = search (rules, the_lemmas) in
+      let e : layout_in known (roll-Ty (Ty-F.Array (fa of) count)) ≡ array count (layout_in known (fa of)) =
+      search (rules, the_lemmas) in
       rw e (sound_array count (layout_in known (fa of)) (ha of))
   layer fa ha (Ty-F.Struct tag) =
       let e : layout_in known (roll-Ty (Ty-F.Struct tag)) ≡ get_or known tag nothing = search (rules, the_lemmas) in
@@ -272,7 +278,8 @@ module _ (known : List Layout) (all : Every Sound known) where
   sound_struct : (s : Struct) → Sound (struct_layout known s)
   sound_struct s =
       sound_closed (with_members nothing (member_layouts known s.members))
-      (row_members nothing (member_layouts known s.members) (record { lie = omega arith; stand = tt }) (sound_members s.members))
+      (row_members nothing (member_layouts known s.members) (record { lie = omega arith; stand = tt })
+      (sound_members s.members))
 
 sound_structs : (known : List Layout) (ss : List Struct) → Every Sound known → Every Sound (layouts_from known ss)
 sound_structs known [] all = all
@@ -299,7 +306,8 @@ slots_aligned structs t = all_aligned (layout structs t).even _ (sound structs t
 both : (n : ℕ) → n ≡ 1 → n ≡ 2 → ⊥
 both n e f = omega arith
 
-size_even : (even : Bool) (size : ℕ) (xs : List Slot) → Stand even xs → Closed even size → Every (λ s. width s.kind ≡ 2 → size % 2 ≡ 0) xs
+size_even : (even : Bool) (size : ℕ) (xs : List Slot) → Stand even xs → Closed even size
+    → Every (λ s. width s.kind ≡ 2 → size % 2 ≡ 0) xs
 size_even true size xs h c = every_weaker Aligned (λ s. width s.kind ≡ 2 → size % 2 ≡ 0) (λ s a w. c) xs h
 size_even false size xs h c =
     every_weaker Plain (λ s. width s.kind ≡ 2 → size % 2 ≡ 0) (λ s p w. absurd (both (width s.kind) p w)) xs h

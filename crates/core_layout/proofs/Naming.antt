@@ -22,7 +22,8 @@ behind_turn before texts i d h = map_more (λ (text : Text). before ++ text) tex
 across_append : (xs ys texts : List Text) → across (xs ++ ys) texts ≡ across xs texts ++ across ys texts
 across_append [] ys texts = refl
 across_append (x ∷ xs) ys texts =
-    ap (λ l. behind x texts ++ l) (across_append xs ys texts) ∙ sym (append_assoc (behind x texts) (across xs texts) (across ys texts))
+    ap (λ l. behind x texts ++ l) (across_append xs ys texts)
+    ∙ sym (append_assoc (behind x texts) (across xs texts) (across ys texts))
 
 pub across_turn : (befores texts : List Text) (i : ℕ) (d : Text) → i < length befores
     → across (take (i + 1) befores) texts ≡ across (take i befores) texts ++ behind (get_or befores i d) texts
@@ -34,7 +35,8 @@ pub extended_turn : (befores : List Text) (text : Text) (i : ℕ) (d : Text) →
     → across (take (i + 1) befores) (text ∷ []) ≡ across (take i befores) (text ∷ []) ++ (get_or befores i d ++ text) ∷ []
 extended_turn befores text i d h = across_turn befores (text ∷ []) i d h
 
-indexed-last : (n at : ℕ) (texts : List Text) → indexed (n + 1) at texts ≡ indexed n at texts ++ behind (index_text (at + n)) texts
+indexed-last : (n at : ℕ) (texts : List Text) → indexed (n + 1) at texts
+    ≡ indexed n at texts ++ behind (index_text (at + n)) texts
 indexed-last zero at texts =
     let z : at ≡ at + 0 = omega arith in
     append-nil (behind (index_text at) texts) ∙ ap (λ (k : ℕ). behind (index_text k) texts) z
@@ -62,18 +64,21 @@ behind_append x ys zs = map-append (λ (t : Text). x ++ t) ys zs
 behind_behind : (x y : Text) (zs : List Text) → behind (x ++ y) zs ≡ behind x (behind y zs)
 behind_behind x y [] = refl
 behind_behind x y (z ∷ zs) =
-    ap (λ (t : Text). t ∷ behind (x ++ y) zs) (append_assoc x y z) ∙ ap (λ (l : List Text). (x ++ (y ++ z)) ∷ l) (behind_behind x y zs)
+    ap (λ (t : Text). t ∷ behind (x ++ y) zs) (append_assoc x y z)
+    ∙ ap (λ (l : List Text). (x ++ (y ++ z)) ∷ l) (behind_behind x y zs)
 
 across_behind : (x : Text) (ys zs : List Text) → across (behind x ys) zs ≡ behind x (across ys zs)
 across_behind x [] zs = refl
 across_behind x (y ∷ ys) zs =
     ap (λ (l : List Text). l ++ across (behind x ys) zs) (behind_behind x y zs)
-    ∙ ap (λ (l : List Text). behind x (behind y zs) ++ l) (across_behind x ys zs) ∙ sym (behind_append x (behind y zs) (across ys zs))
+    ∙ ap (λ (l : List Text). behind x (behind y zs) ++ l) (across_behind x ys zs)
+    ∙ sym (behind_append x (behind y zs) (across ys zs))
 
 across_across : (xs ys zs : List Text) → across (across xs ys) zs ≡ across xs (across ys zs)
 across_across [] ys zs = refl
 across_across (x ∷ xs) ys zs =
-    across_append (behind x ys) (across xs ys) zs ∙ ap (λ (l : List Text). l ++ across (across xs ys) zs) (across_behind x ys zs)
+    across_append (behind x ys) (across xs ys) zs
+    ∙ ap (λ (l : List Text). l ++ across (across xs ys) zs) (across_behind x ys zs)
     ∙ ap (λ (l : List Text). behind x (across ys zs) ++ l) (across_across xs ys zs)
 
 behind_none : (xs : List Text) → behind [] xs ≡ xs
@@ -109,7 +114,8 @@ names-Num known t = search (rules, the_lemmas)
 names-Pointer : (known : List (List Text)) (to : Ty) (readonly : Bool) → names_in known (ty.Pointer to readonly) ≡ [] ∷ []
 names-Pointer known to readonly = search (rules, the_lemmas)
 
-names-Array : (known : List (List Text)) (of : Ty) (count : ℕ) → names_in known (ty.Array of count) ≡ indexed count 0 (names_in known of)
+names-Array : (known : List (List Text)) (of : Ty) (count : ℕ) → names_in known (ty.Array of count)
+    ≡ indexed count 0 (names_in known of)
 names-Array known of count = search (rules, the_lemmas)
 
 names-Struct : (known : List (List Text)) (tag : ℕ) → names_in known (ty.Struct tag) ≡ get_or known tag []
@@ -127,7 +133,8 @@ in_scalar p made names whole m e h =
 
 pub in_num : (known : List (List Text)) (t : Ty) (of : IntType) (p : Prefix) (made whole : List Text) → t ≡ ty.Num of
     → made ≡ across p.befores (p.text ∷ []) → behind_prefix p (names_in known t) ≡ whole → made ≡ whole
-in_num known t of p made whole e m h = in_scalar p made (names_in known t) whole m (ap (names_in known) e ∙ names-Num known of) h
+in_num known t of p made whole e m h = in_scalar p made (names_in known t) whole m
+    (ap (names_in known) e ∙ names-Num known of) h
 
 pub in_pointer : (known : List (List Text)) (t to : Ty) (readonly : Bool) (p : Prefix) (made whole : List Text)
     → t ≡ ty.Pointer to readonly
@@ -153,7 +160,8 @@ in_array known t of count p q whole e s h =
     s (names_in known of) ∙ ap (behind_prefix p) (sym (ap (names_in known) e ∙ names-Array known of count)) ∙ h
 
 -- one element makes the text behind all longer
-pub in_one : (p q : Prefix) (count : ℕ) → count ≡ 1 → q.befores ≡ p.befores → q.text ≡ p.text ++ index_text 0 → IsInElements p count q
+pub in_one : (p q : Prefix) (count : ℕ) → count ≡ 1 → q.befores ≡ p.befores → q.text ≡ p.text ++ index_text 0
+    → IsInElements p count q
 in_one p q count c b e names =
     let zero_th : List Text = behind (index_text 0) names in
     ap (λ (l : List Text). across l (behind q.text names)) b
@@ -193,10 +201,12 @@ pub members_step : (known : List (List Text)) (ms : List Member) (i : ℕ) (m : 
     → text ≡ 46 ∷ m.name → more ≡ all ++ behind text names → more ≡ member_names known (take (i + 1) ms)
 members_step known ms i m text all names more h is a n t e =
     let here : List Text = behind (member_text m.name) (names_in known m.ty) in
-    let part : behind text names ≡ here = ap (λ (l : List Text). behind text l) n ∙ ap (λ (w : Text). behind w (names_in known m.ty)) t in
+    let part : behind text names ≡ here =
+    ap (λ (l : List Text). behind text l) n ∙ ap (λ (w : Text). behind w (names_in known m.ty)) t in
     let cut : take (i + 1) ms ≡ take i ms ++ m ∷ [] = take_more ms i m h ∙ ap (λ (x : Member). take i ms ++ x ∷ []) (sym is) in
     let last : member_names known (m ∷ []) ≡ here = append-nil here in
-    e ∙ ap (λ (l : List Text). l ++ behind text names) a ∙ ap (λ (l : List Text). member_names known (take i ms) ++ l) (part ∙ sym last)
+    e ∙ ap (λ (l : List Text). l ++ behind text names) a
+    ∙ ap (λ (l : List Text). member_names known (take i ms) ++ l) (part ∙ sym last)
     ∙ sym (members_append known (take i ms) (m ∷ [])) ∙ ap (member_names known) (sym cut)
 
 struct_names-last : (known : List (List Text)) (ss : List Struct) (s : Struct)
@@ -208,7 +218,8 @@ struct_names-last known (t ∷ ss) s = struct_names-last (known ++ member_names 
 abbrev Same : Option (List Text) → List Text → Type 0
 Same = Keeps (λ names. names)
 
-pub named_at : (structs : List Struct) (named : List (Option (List Text))) (at : ℕ) (kept : Option (List Text)) (names : List Text)
+pub named_at : (structs : List Struct) (named : List (Option (List Text))) (at : ℕ) (kept : Option (List Text))
+    (names : List Text)
     → IsNamed named structs → at < length named → kept ≡ get_or named at kept → kept ≡ Some names
     → names ≡ get_or (struct_names structs) at []
 named_at structs named at kept names all h is some =
@@ -217,7 +228,8 @@ named_at structs named at kept names all h is some =
     let found : get_or named at kept ≡ Some names = sym is ∙ some in
     rw found at here
 
-pub named_past : (structs : List Struct) (named : List (Option (List Text))) (at : ℕ) → IsNamed named structs → length named ≤ at
+pub named_past : (structs : List Struct) (named : List (Option (List Text))) (at : ℕ) → IsNamed named structs
+    → length named ≤ at
     → get_or (struct_names structs) at [] ≡ []
 named_past structs named at all h =
     let same : length named ≡ length (struct_names structs) = length-zip Same named (struct_names structs) all.kept in
@@ -227,14 +239,16 @@ is_same : (kept : Option (List Text)) (names : List Text) → IfSome kept (λ ma
 is_same None names h = tt
 is_same (Some made) names h = h
 
-pub structs_step : (structs : List Struct) (named more : List (Option (List Text))) (i : ℕ) (of : Struct) (kept : Option (List Text))
+pub structs_step : (structs : List Struct) (named more : List (Option (List Text))) (i : ℕ) (of : Struct)
+    (kept : Option (List Text))
     → i < length structs → of ≡ get_or structs i of → IsNamed named (take i structs)
     → IfSome kept (λ made. made ≡ member_names (struct_names (take i structs)) of.members)
     → more ≡ named ++ kept ∷ [] → IsNamed more (take (i + 1) structs)
 structs_step structs named more i of kept h is all one e =
     let before : List (List Text) = struct_names (take i structs) in
     let these : AllZip Same (named ++ kept ∷ []) (before ++ member_names before of.members ∷ []) =
-    zip-last Same named before kept (member_names before of.members) all.kept (is_same kept (member_names before of.members) one) in
+    zip-last Same named before kept (member_names before of.members) all.kept
+    (is_same kept (member_names before of.members) one) in
     let cut : take (i + 1) structs ≡ take i structs ++ of ∷ [] =
     take_more structs i of h ∙ ap (λ (x : Struct). take i structs ++ x ∷ []) (sym is) in
     let whole : struct_names (take (i + 1) structs) ≡ before ++ member_names before of.members ∷ [] =

@@ -14,15 +14,17 @@ use Rattle.core_layout.specs.Laid.{layout_of}
 use Rattle.core_layout.specs.Scalars.{scalar_of}
 
 pub laid_turn : (core : Core) (i : ℕ) (g : Global) (all more : List Laid) (made : Laid) → i < length core.globals
-    → g ≡ get_or core.globals i g → map layout_of all ≡ global_layouts core (take i core.globals) → layout_of made ≡ global_layout core g
+    → g ≡ get_or core.globals i g → map layout_of all ≡ global_layouts core (take i core.globals)
+    → layout_of made ≡ global_layout core g
     → more ≡ all ++ made ∷ [] → map layout_of more ≡ global_layouts core (take (i + 1) core.globals)
 laid_turn core i g all more made h is a m e =
-    let turn : global_layouts core (take (i + 1) core.globals) ≡ global_layouts core (take i core.globals) ++ global_layout core (get_or core.globals i g) ∷ [] =
+    let turn : global_layouts core (take (i + 1) core.globals)
+    ≡ global_layouts core (take i core.globals) ++ global_layout core (get_or core.globals i g) ∷ [] =
     map_more (global_layout core) core.globals i g h in
     ap (map layout_of) e ∙ map-append layout_of all (made ∷ []) ∙ ap (λ (ls : List Layout). ls ++ layout_of made ∷ []) a
     ∙ ap (λ (l : Layout). global_layouts core (take i core.globals) ++ l ∷ []) (m ∙ ap (global_layout core) is) ∙ sym turn
 
-with_last : (before : Layout) (ls : List Layout) (l : Layout)
+pub with_last : (before : Layout) (ls : List Layout) (l : Layout)
     → with_members before (ls ++ l ∷ []) ≡ with_member (with_members before ls) l
 with_last before [] l = refl
 with_last before (k ∷ ls) l = with_last (with_member before k) ls l
@@ -32,13 +34,15 @@ low_aligned true a b e = omega arith
 low_aligned false a b e = omega arith
 
 bytes_step : (ls : List Layout) (i : ℕ) (l : Layout) (bytes start more : ℕ) → i < length ls → l ≡ get_or ls i l
-    → bytes ≡ (with_members nothing (take i ls)).size % 65536 → start ≡ aligned l.even bytes % 65536 → more ≡ (start + l.size) % 65536
+    → bytes ≡ (with_members nothing (take i ls)).size % 65536 → start ≡ aligned l.even bytes % 65536
+    → more ≡ (start + l.size) % 65536
     → more ≡ (with_members nothing (take (i + 1) ls)).size % 65536
 bytes_step ls i l bytes start more h is b s m =
     let before : Layout = with_members nothing (take i ls) in
     let cut : take (i + 1) ls ≡ take i ls ++ l ∷ [] = take_more ls i l h ∙ ap (λ (k : Layout). take i ls ++ k ∷ []) (sym is) in
     let whole : (with_members nothing (take (i + 1) ls)).size ≡ aligned l.even before.size + l.size =
-    ap (λ (ks : List Layout). (with_members nothing ks).size) cut ∙ ap (λ (k : Layout). k.size) (with_last nothing (take i ls) l) in
+    ap (λ (ks : List Layout). (with_members nothing ks).size) cut
+    ∙ ap (λ (k : Layout). k.size) (with_last nothing (take i ls) l) in
     let low : start ≡ aligned l.even before.size % 65536 = s ∙ low_aligned l.even bytes before.size b in
     omega (arith, whole, low, m)
 
@@ -66,7 +70,8 @@ same_scalar g a b s t slot name e f =
     ∙ ap (λ (k : Option ℕ). made ((b + slot.offset) % 65536) k) (same_stamp g.lifetime s t f)
 
 -- addresses modulo 2^16 are told the same
-pub same_scalars : (g : Global) (a b s t : ℕ) (slots : List Slot) (texts : List Text) → a % 65536 ≡ b % 65536 → s % 65536 ≡ t % 65536
+pub same_scalars : (g : Global) (a b s t : ℕ) (slots : List Slot) (texts : List Text) → a % 65536 ≡ b % 65536
+    → s % 65536 ≡ t % 65536
     → scalars_at g a s slots texts ≡ scalars_at g b t slots texts
 same_scalars g a b s t [] texts e f = refl
 same_scalars g a b s t (x ∷ xs) [] e f = refl
@@ -74,7 +79,8 @@ same_scalars g a b s t (x ∷ xs) (n ∷ ns) e f =
     ap (λ (k : Scalar). k ∷ scalars_at g a (s + 4) xs ns) (same_scalar g a b s t x n e f)
     ∙ ap (λ (l : List Scalar). scalar_of g b t x n ∷ l) (same_scalars g a b (s + 4) (t + 4) xs ns e (omega arith))
 
-pub scalars_step : (g : Global) (at here next i : ℕ) (slots : List Slot) (texts : List Text) (d : Slot) (text : Text) (one : Scalar)
+pub scalars_step : (g : Global) (at here next i : ℕ) (slots : List Slot) (texts : List Text) (d : Slot) (text : Text)
+    (one : Scalar)
     (whole into more : List Scalar)
     → i < length slots → i < length texts → text ≡ get_or texts i text
     → whole ≡ into ++ scalars_at g at here (drop i slots) (drop i texts) → one ≡ scalar_of g at here (get_or slots i d) text
@@ -184,7 +190,8 @@ module _ (core : Core) (i : ℕ) (g : Global) (h : i < length core.globals) (is 
   unfolding stamp_address first_stamp
   stamp_here bytes stamp s = omega (arith, s.stamp_is)
 
-  pub scalars_next : (l : Layout) (bytes stamp start at : ℕ) (texts : List Text) (all more : List Scalar) → Stands core i bytes stamp
+  pub scalars_next : (l : Layout) (bytes stamp start at : ℕ) (texts : List Text) (all more : List Scalar)
+      → Stands core i bytes stamp
       → l ≡ global_layout core g → start ≡ aligned l.even bytes % 65536 → at ≡ (data_start + start) % 65536
       → texts ≡ names core.structs g.ty → all ≡ scalars_from core 0 (take i core.globals)
       → more ≡ all ++ scalars_at g at stamp l.slots texts → more ≡ scalars_from core 0 (take (i + 1) core.globals)
@@ -197,13 +204,15 @@ module _ (core : Core) (i : ℕ) (g : Global) (h : i < length core.globals) (is 
       λ slots ns. scalars_at g (global_address core i) (stamp_address core (first_stamp core i)) slots ns in
       let whole : made l.slots texts ≡ global_scalars core i g =
       ap (λ (k : Layout). made k.slots texts) e ∙ ap (λ (ns : List Text). made (global_layout core g).slots ns) t in
-      let long : i ≡ 0 + length (take i core.globals) = let z = length-take-le i core.globals (omega arith) in omega (arith, z) in
+      let front : length (take i core.globals) ≡ i = length-take-le i core.globals (omega arith) in
+      let long : i ≡ 0 + length (take i core.globals) = omega (arith, front) in
       let before : List Scalar = scalars_from core 0 (take i core.globals) in
       m ∙ ap (λ (k : List Scalar). k ++ scalars_at g at stamp l.slots texts) b
       ∙ ap (λ (k : List Scalar). before ++ k) (low ∙ whole ∙ sym (append-nil (global_scalars core i g)))
       ∙ sym (scalars_append core 0 i (take i core.globals) (g ∷ []) long) ∙ ap (scalars_from core 0) (sym cut)
 
-pub all_of : (core : Core) (n : ℕ) (all : List Scalar) → length core.globals ≤ n → all ≡ scalars_from core 0 (take n core.globals)
+pub all_of : (core : Core) (n : ℕ) (all : List Scalar) → length core.globals ≤ n
+    → all ≡ scalars_from core 0 (take n core.globals)
     → all ≡ scalars core
 unfolding scalars
 all_of core n all h e = e ∙ ap (scalars_from core 0) (take_all n core.globals h)

@@ -2,7 +2,8 @@
 use Rattle.std.proofs.Common.{◌≡◌, ℕ, zero, suc, ◌<◌, List, [], ◌∷◌, ◌++◌, length, get_or, ap, refl, arith}
 use Rattle.std.specs.List.{AllZip}
 
-pub zip_at : {A B : Type 0} (R : A → B → Type 0) (xs : List A) (ys : List B) (i : ℕ) (d : A) (e : B) → AllZip R xs ys → i < length xs
+pub zip_at : {A B : Type 0} (R : A → B → Type 0) (xs : List A) (ys : List B) (i : ℕ) (d : A) (e : B) → AllZip R xs ys
+    → i < length xs
     → R (get_or xs i d) (get_or ys i e)
 zip_at R [] ys i d e all h = absurd (omega arith)
 zip_at R (x ∷ xs) [] i d e all h = absurd all

@@ -1,4 +1,6 @@
+pub mod Frames
 pub mod Laid
 pub mod Laws
 pub mod Prefixes
 pub mod Scalars
+pub mod Variables

@@ -7,5 +7,9 @@ use Rattle.core_tree.specs.Data.{Text, told_address, stamp_at}
 
 -- where the variable begins at an address, and the scalar's stamp is at another one if the variable is timed
 abbrev pub scalar_of : Global → ℕ → ℕ → Slot → Text → Scalar
-scalar_of g at stamp slot name =
-    record { name = g.name ++ name; address = told_address (at + slot.offset); kind = slot.kind; stamp = stamp_at g.lifetime stamp }
+scalar_of g at stamp slot name = record {
+  name = g.name ++ name;
+  address = told_address (at + slot.offset);
+  kind = slot.kind;
+  stamp = stamp_at g.lifetime stamp;
+}

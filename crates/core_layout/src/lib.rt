@@ -9,6 +9,9 @@ mod tests;
 mod texts;
 mod variables;
 
-pub use laws::{scalars_are_aligned, scalars_fit, scalars_rise, sizes_are_even};
+pub use laws::{
+    frames_lie_apart, scalars_are_aligned, scalars_fit, scalars_rise, sizes_are_even,
+    stamps_lie_behind, variables_lie_apart,
+};
 pub use layouts::{Laid, slots_of, structs_laid};
 pub use variables::scalars;

@@ -151,7 +151,8 @@ fn struct_names(
     is_small: bool,
 ) -> Result<Option<Sequence<Sequence<u8>>>, NoMemory>
     requires { IsNamed named.now _before.now }
-    ensures { IfOk result (λ made. IfSome made (λ names. names ≡ spec.member_names (spec.struct_names _before.now) of.now.members)) }
+    ensures { IfOk result (λ made. IfSome made (λ names.
+        names ≡ spec.member_names (spec.struct_names _before.now) of.now.members)) }
 {
     if is_small {
         let names = member_names(alloc, _before, named, of.members.as_slice())?;

@@ -4,7 +4,8 @@ use Rattle.core_layout.proofs.names.in_elements.Goals as goal
 
 pub returns-in_ok-text : goal.returns-in_ok-text
 returns-in_ok-text c =
-    in_one c.args.before (record { befores = c.args.before.befores; text = c.in_ok-text.text }) c.args.count c.if-count-eq1.true refl c.in_ok-text.ensures
+    in_one c.args.before (record { befores = c.args.before.befores; text = c.in_ok-text.text }) c.args.count
+    c.if-count-eq1.true refl c.in_ok-text.ensures
 
 pub returns-in_ok-befores : goal.returns-in_ok-befores
 returns-in_ok-befores c =

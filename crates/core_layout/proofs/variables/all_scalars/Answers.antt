@@ -5,7 +5,10 @@ use Rattle.core_layout.proofs.Placing.{stands_first, stands_next, scalars_next, 
 use Rattle.core_layout.proofs.variables.all_scalars.Goals as goal
 
 pub loop-at-init : goal.loop-at-init
-loop-at-init c = record { all_are = c.new-all.ensures; stands = stands_first c.args.core.now c.first_stamp-stamp.result c.first_stamp-stamp.ensures }
+loop-at-init c = record {
+  all_are = c.new-all.ensures;
+  stands = stands_first c.args.core.now c.first_stamp-stamp.result c.first_stamp-stamp.ensures;
+}
 
 pub loop-at-preserved : goal.loop-at-preserved
 loop-at-preserved c =
@@ -22,9 +25,11 @@ loop-at-preserved c =
           (rw (← c.as_slice.ensures) c.in_ok-names.ensures) c.loop-at.invariant.all_are
           (rw (← c.as_slice-in-loop-at.ensures, ← c.as_slice-in-loop-at-2.ensures) c.in_ok-push_scalars.ensures);
       stands = stands_next core c.loop-at.at g h is (layout_of c.index-laid-at.result) c.loop-at.bytes c.loop-at.stamp
-          c.start_behind-start.result _ c.behind_stamps-stamp.result c.loop-at.invariant.stands l c.start_behind-start.ensures refl
+          c.start_behind-start.result _ c.behind_stamps-stamp.result c.loop-at.invariant.stands l
+          c.start_behind-start.ensures refl
           (rw (← c.as_slice-in-loop-at-3.ensures) c.behind_stamps-stamp.ensures);
     }
 
 pub returns : goal.returns
-returns c = all_of c.args.core.now c.loop-at.at c.loop-at.all (rw (← c.as_slice-globals.ensures) c.loop-at-test.false) c.loop-at.invariant.all_are
+returns c = all_of c.args.core.now c.loop-at.at c.loop-at.all (rw (← c.as_slice-globals.ensures) c.loop-at-test.false)
+    c.loop-at.invariant.all_are
