@@ -288,7 +288,7 @@ pub fn structs_laid(alloc: Global, structs: &[Struct]) -> Result<Sequence<Option
 
 /// The layout of a type of at most 16,383 bytes, where the structs are laid out; for a bigger one the answer is
 /// `NoMemory`.
-pub fn laid_type(
+pub fn small_type_laid(
     alloc: Global,
     _structs: &[Struct],
     known: &[Option<Laid>],
@@ -314,6 +314,6 @@ pub fn slots_of(
     requires { IsLaid known.now _structs.now }
     ensures { IfOk result (λ slots. slots ≡ (spec.layout _structs.now ty.now).slots) }
 {
-    let Laid { slots, .. } = laid_type(alloc, _structs, known, ty)?;
+    let Laid { slots, .. } = small_type_laid(alloc, _structs, known, ty)?;
     Ok(slots)
 }

@@ -4,7 +4,7 @@ ghost use Rattle.core_tree.specs.Layout as layout;
 ghost use Rattle.core_layout.specs.Laid.{IsLaid, IsNamed, layout_of};
 ghost use Rattle.core_layout.specs.Scalars.{scalar_of};
 
-use crate::layouts::{Laid, laid_type, structs_laid};
+use crate::layouts::{Laid, small_type_laid, structs_laid};
 use crate::names::{structs_named, type_names};
 use crate::texts::joined;
 use base16::board::DATA;
@@ -26,7 +26,7 @@ fn globals_laid(
     let structs = core.structs.as_slice();
     let mut all = Sequence::new(alloc);
     for variable in core.globals.as_slice() {
-        all.push(laid_type(alloc, structs, known, &variable.ty)?)?;
+        all.push(small_type_laid(alloc, structs, known, &variable.ty)?)?;
     }
     Ok(all)
 }
