@@ -1,0 +1,5 @@
+pub mod Stores
+pub mod Deeds
+pub mod Commits
+pub mod Whole
+pub mod Logs
