@@ -10,6 +10,8 @@ mod maps;
 #[cfg(test)]
 mod memory;
 #[cfg(test)]
+mod serving;
+#[cfg(test)]
 mod stores;
 #[cfg(test)]
 mod support;
