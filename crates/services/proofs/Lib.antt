@@ -3,3 +3,5 @@ pub mod Deeds
 pub mod Commits
 pub mod Whole
 pub mod Logs
+pub mod Machines
+pub mod Fitting

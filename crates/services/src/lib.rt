@@ -4,9 +4,11 @@
 
 mod acting;
 mod gated;
+mod laws;
 mod serving;
 mod storing;
 
 pub use acting::Committed;
 pub use gated::Gated;
+pub use laws::{a_commit_is_where_the_machine_stands, a_service_is_that_of_the_machine};
 pub use serving::{Served, serve};

@@ -1,0 +1,32 @@
+-- A service on the board and the machine with unbroken power.
+use Rattle.std.specs.Prelude.{◌≡◌, ℕ, ◌+◌, ◌*◌, List, None}
+use Rattle.base16.specs.declared.reading.Reading.{Reading}
+use Rattle.core430.specs.Registers.{view_of}
+use Rattle.board_map.specs.Recovered.{recovered}
+use Rattle.board_map.specs.declared.work.Work.{Work}
+use Rattle.ideal430.specs.Ideal.{Ideal}
+use Rattle.ideal430.specs.Agreement.{Agrees}
+use Rattle.ideal430.specs.declared.state.IdealEnd.{IdealEnd}
+use Rattle.ideal430.specs.declared.state.IdealEnd.TheVariants.{Running, Ended}
+use Rattle.services.specs.declared.serving.Served.{Served}
+use Rattle.services.specs.declared.serving.Served.TheVariants as served
+
+-- The machine stands where the board does: registers, working segment and marks are the same, no block is open, and the
+-- words agree on the bytes that count. It has these readings left to take, and its run stands so.
+pub record StandsAt (t : Ideal) (standing : IdealEnd) (rest : List Reading) (registers : List ℕ) (m : ℕ → ℕ)
+    (work : Work) : Type 0 where
+  pub agrees : Agrees t (view_of registers) m work.segment None work.marks
+  pub left : t.left ≡ rest
+  pub status : t.status ≡ standing
+
+-- it stands where a service left the board, unless power failed
+abbrev pub Follows : Served → (t : Ideal) → List Reading → (registers : List ℕ) (m : ℕ → ℕ) → Work → Type 0
+Follows (served.Done c) t rest registers m work = StandsAt t Running rest registers m work
+Follows served.Off t rest registers m work = Unit {0}
+Follows (served.End kind c) t rest registers m work = StandsAt t (Ended kind) rest registers m work
+
+-- The machine stands where the memory recovers to: registers, working segment and marks, and the words on the bytes that
+-- count; no block is open.
+abbrev pub Fits : (t : Ideal) (m : ℕ → ℕ) → Type 0
+Fits t m = Agrees t (recovered m).registers (recovered m).memory ((recovered m).state 0) None
+    ((recovered m).state 3 + 65536 * (recovered m).state 4)
