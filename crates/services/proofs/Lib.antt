@@ -5,3 +5,4 @@ pub mod Whole
 pub mod Logs
 pub mod Machines
 pub mod Fitting
+pub mod Counting

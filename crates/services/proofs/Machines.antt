@@ -58,7 +58,8 @@ deed_if-stays : (o : Option EndKind) (e : Effect) → e.block ≡ Stays → OnDo
 deed_if-stays None e h = h
 deed_if-stays (Some kind) e h = tt
 
-deed-stays : (n value : ℕ) (r m : ℕ → ℕ) (segment : ℕ) (b : Block) → OnDoes (deed_at n value r m segment b) (λ e. e.block ≡ Stays)
+pub deed-stays : (n value : ℕ) (r m : ℕ → ℕ) (segment : ℕ) (b : Block)
+    → OnDoes (deed_at n value r m segment b) (λ e. e.block ≡ Stays)
 deed-stays n value r m segment b = by (service_at n) refl
   where
     by : (o : Option Service) → service_at n ≡ o → OnDoes (deed_if_built o n value r m segment b) (λ e. e.block ≡ Stays)
@@ -82,8 +83,8 @@ sensed : (n channel value : ℕ) (u : Ideal) (rest : List Reading)
 sensed n channel value u rest = rw (eq-eqb channel channel refl)
 
 -- with the reading that it takes as the next one, its service does the deed
-asking-taken : (a : Ask) (n value : ℕ) (u : Ideal) (rest : List Reading) → u.left ≡ taken_of a value ++ rest → IsNothing a value
-    → asking n u a ≡ doing (with_left u rest) (deed_here n value u)
+pub asking-taken : (a : Ask) (n value : ℕ) (u : Ideal) (rest : List Reading) → u.left ≡ taken_of a value ++ rest
+    → IsNothing a value → asking n u a ≡ doing (with_left u rest) (deed_here n value u)
 asking-taken Nothing n value u rest l z =
     ap (λ v. doing u (deed_here n v u)) (sym z) ∙ ap (λ x. doing (with_left u x) (deed_here n value u)) l
 asking-taken (Sensor channel) n value u rest l z = ap (sensing n u channel) l ∙ sensed n channel value u rest
@@ -124,7 +125,7 @@ follows-ended : (b : Bool) (c : Option Committed) (t : Ideal) (rest : List Readi
 follows-ended true c t rest registers m work h = h
 follows-ended false c t rest registers m work h = h
 
-power-in : (b : Bool) (c : Option Committed) (answer : Served) (P : Type 0) → answer ≡ ended b c → OnPower answer P → P
+pub power-in : (b : Bool) (c : Option Committed) (answer : Served) (P : Type 0) → answer ≡ ended b c → OnPower answer P → P
 power-in b c answer P k h = by b (subst (λ a. OnPower a P) k h)
   where
     by : (b : Bool) → OnPower (ended b c) P → P

@@ -104,7 +104,7 @@ min-right a b h = omega arith
 min-left : (a b : ℕ) → a < b → min a b ≡ a
 min-left a b h = omega arith
 
-committed-ended : (b : Bool) (c : Option Committed) → committed_in (ended b c) ≡ c
+pub committed-ended : (b : Bool) (c : Option Committed) → committed_in (ended b c) ≡ c
 committed-ended true c = refl
 committed-ended false c = refl
 

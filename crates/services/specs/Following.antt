@@ -1,15 +1,18 @@
 -- A service on the board and the machine with unbroken power.
-use Rattle.std.specs.Prelude.{◌≡◌, ℕ, ◌+◌, ◌*◌, List, None}
+use Rattle.std.specs.Prelude.{◌≡◌, ℕ, ◌+◌, ◌*◌, if◌then◌else◌, List, None, is_some}
 use Rattle.base16.specs.declared.reading.Reading.{Reading}
 use Rattle.core430.specs.Registers.{view_of}
+use Rattle.board_map.specs.Map.{count_of}
 use Rattle.board_map.specs.Recovered.{recovered}
 use Rattle.board_map.specs.declared.work.Work.{Work}
 use Rattle.ideal430.specs.Ideal.{Ideal}
 use Rattle.ideal430.specs.Agreement.{Agrees}
 use Rattle.ideal430.specs.declared.state.IdealEnd.{IdealEnd}
 use Rattle.ideal430.specs.declared.state.IdealEnd.TheVariants.{Running, Ended}
+use Rattle.services.specs.Serving.{committed_in}
 use Rattle.services.specs.declared.serving.Served.{Served}
 use Rattle.services.specs.declared.serving.Served.TheVariants as served
+use Rattle.world.specs.World.{WorldState}
 
 -- The machine stands where the board does: registers, working segment and marks are the same, no block is open, and the
 -- words agree on the bytes that count. It has these readings left to take, and its run stands so.
@@ -30,3 +33,17 @@ Follows (served.End kind c) t rest registers m work = StandsAt t (Ended kind) re
 abbrev pub Fits : (t : Ideal) (m : ℕ → ℕ) → Type 0
 Fits t m = Agrees t (recovered m).registers (recovered m).memory ((recovered m).state 0) None
     ((recovered m).state 3 + 65536 * (recovered m).state 4)
+
+-- What the machine counts is what the board counts: ticks since the last commit or the end of the last boot, entries of the
+-- undo log, commits, length of the block log, period.
+pub record Counts (t : Ideal) (m : ℕ → ℕ) (work : Work) (world : WorldState) : Type 0 where
+  pub ticks : work.since + t.meter.ticks ≡ world.spent
+  pub entries : t.meter.entries ≡ count_of m
+  pub commits : t.meter.commits ≡ work.commits
+  pub length : t.meter.length ≡ work.block_length
+  pub period : t.meter.period ≡ world.period
+
+-- The machine counts so after a service, and has committed exactly where the board did.
+pub record CountsAlike (t v : Ideal) (answer : Served) (m : ℕ → ℕ) (work : Work) (world : WorldState) : Type 0 where
+  pub counts : Counts v m work world
+  pub commits : v.meter.commits ≡ (if is_some (committed_in answer) then t.meter.commits + 1 else t.meter.commits)

@@ -10,5 +10,8 @@ mod storing;
 
 pub use acting::Committed;
 pub use gated::Gated;
-pub use laws::{a_commit_is_where_the_machine_stands, a_service_is_that_of_the_machine};
+pub use laws::{
+    a_commit_is_where_the_machine_stands, a_service_is_counted_by_the_machine,
+    a_service_is_that_of_the_machine,
+};
 pub use serving::{Served, serve};
