@@ -1,0 +1,3 @@
+pub mod ArgumentTurns
+pub mod CastParts
+pub mod TypeTurns
