@@ -8,7 +8,8 @@ use Rattle.c_tree.specs.declared.qualified.Qual.{Qual}
 use Rattle.c_tree.specs.declared.qualified.Qual.TheVariants.{Const, Volatile}
 use Rattle.c_typing.specs.TypeNames.{Qualified, has_const, pointed, arrays}
 
-pub next_is : {A : Type 0} (all : List A) (i : ℕ) (x : A) → i < length all → x ≡ get_or all i x → drop i all ≡ x ∷ drop (i + 1) all
+pub next_is : {A : Type 0} (all : List A) (i : ℕ) (x : A) → i < length all → x ≡ get_or all i x
+    → drop i all ≡ x ∷ drop (i + 1) all
 next_is all i x h here =
     let n : suc i ≡ i + 1 = omega arith in
     drop-cons all i x h ∙ (ap (λ y. y ∷ drop (suc i) all) (sym here) ∙ ap (λ k. x ∷ drop k all) n)

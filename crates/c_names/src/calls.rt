@@ -42,7 +42,8 @@ fn function_call(
     signature: Option<&Signature>,
     operands: Items<Operand>,
 ) -> Result<Operand, Stop>
-    ensures { Answers (told lines.own lines.channel (spec.function_call lines.own (option_copied signature.entry) operands)) result }
+    ensures { Answers
+        (told lines.own lines.channel (spec.function_call lines.own (option_copied signature.entry) operands)) result }
 {
     let Some(signature) = signature else {
         return Err(lines.broken(Rule::WrongType));

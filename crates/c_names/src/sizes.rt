@@ -136,7 +136,8 @@ pub fn size_of_named(
     of: &Typename,
     sizes: Items<Operand>,
 ) -> Result<Boxed<Expr>, Stop>
-    ensures { Answers (at line (spec.size_of_named env.now line (spec.type_named env.now (words_of of.now) (map spec.count_of sizes)))) result }
+    ensures { Answers (at line (spec.size_of_named env.now line
+        (spec.type_named env.now (words_of of.now) (map spec.count_of sizes)))) result }
 {
     let counts = counts_of(alloc, sizes.as_slice())?;
     let ty = type_of_name(alloc, env, line, of, counts)?;
@@ -186,7 +187,8 @@ pub fn cast(
     to: &Typename,
     operands: Items<Operand>,
 ) -> Result<Boxed<Expr>, Stop>
-    ensures { Answers (at line (spec.cast line (spec.type_named env.now (words_of to.now) (spec.sizes_before operands)) (spec.last_value operands))) result }
+    ensures { Answers (at line (spec.cast line
+        (spec.type_named env.now (words_of to.now) (spec.sizes_before operands)) (spec.last_value operands))) result }
 {
     let (counts, value) = sizes_and_value(alloc, operands)?;
     let ty = type_of_name(alloc, env, line, to, counts)?;

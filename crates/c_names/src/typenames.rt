@@ -64,7 +64,8 @@ pub fn pointed(
     readonly: bool,
     stars: &[Items<Qual>],
 ) -> Result<(Ty, bool), NoMemory>
-    ensures { IfOk result (λ made. spec.pointed (record { ty = ty; readonly = readonly }) stars.now ≡ record { ty = made.0; readonly = made.1 }) }
+    ensures { IfOk result (λ made.
+        spec.pointed (record { ty = ty; readonly = readonly }) stars.now ≡ record { ty = made.0; readonly = made.1 }) }
 {
     let mut made = ty;
     let mut constant = readonly;

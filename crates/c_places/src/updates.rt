@@ -41,7 +41,8 @@ fn made_update(
     place: Boxed<Place>,
     value: Boxed<Expr>,
 ) -> Result<Boxed<Expr>, NoMemory>
-    ensures { IfOk result (λ made. made ≡ values.typed line place.ty (k.Update op at place value old (scopes.is_marked env.now place))) }
+    ensures { IfOk result (λ made.
+        made ≡ values.typed line place.ty (k.Update op at place value old (scopes.is_marked env.now place))) }
 {
     let ty = copy_type(alloc, &place.get().ty)?;
     let marked = is_marked(env, place.get());
@@ -86,7 +87,8 @@ fn updated_by(
     readonly: bool,
     value: Boxed<Expr>,
 ) -> Result<Boxed<Expr>, Stop>
-    ensures { Answers (at line (spec.updated_by env.now op line old place readonly (out-Ty place.ty) (out-Ty value.ty) value)) result }
+    ensures { Answers
+        (at line (spec.updated_by env.now op line old place readonly (out-Ty place.ty) (out-Ty value.ty) value)) result }
 {
     match (&place.get().ty, &value.get().ty) {
         (Ty::Num(own), Ty::Num(by)) => {
