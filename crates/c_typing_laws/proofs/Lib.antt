@@ -1,0 +1,4 @@
+pub mod Same
+pub mod Conversions
+pub mod Operators
+pub mod Stores

@@ -1,0 +1,76 @@
+-- What a checked expression is lawful in: where the names that are declared stand for what the program has.
+use Rattle.std.specs.Prelude.{◌≡◌, ℕ, ◌≤◌, Bool, true, false, List, length, slice_get, Some, Ok}
+use Rattle.base16.specs.declared.operator.BinaryOp.{BinaryOp}
+use Rattle.core_tree.specs.declared.types.Ty.{Ty, out-Ty}
+use Rattle.core_tree.specs.declared.types.Member.{Member}
+use Rattle.core_tree.specs.declared.expressions.Expr.{Expr}
+use Rattle.core_tree.specs.declared.program.Global.{Global}
+use Rattle.core_tree.specs.declared.program.Function.{Function}
+use Rattle.core_tree.specs.Layout.{members_of}
+use Rattle.core_tree.specs.Rules.{is_scalar, zero_layer}
+use Rattle.core_tree.specs.Lawful.{Scope, IsExpr, IsPlace, LawfulExpr, is_const, is_constant}
+use Rattle.c_typing.specs.declared.environment.Env.{Env}
+use Rattle.c_typing.specs.declared.environment.Signature.{Signature}
+use Rattle.c_typing.specs.declared.environment.What.TheVariants as w
+use Rattle.c_typing.specs.declared.operand.Operand.{Operand}
+use Rattle.c_typing.specs.declared.operand.Operand.TheVariants as o
+use Rattle.c_typing.specs.Scopes.{lookup}
+use Rattle.c_typing.specs.Values.{converted}
+use Rattle.c_typing.specs.Operators.{binary, conditional}
+use Rattle.c_typing.specs.Places.{assigned, updated}
+
+-- what is declared stands for what the program has: its complete structs, the objects of names, and the functions that
+-- are defined
+pub record Agrees (env : Env) (s : Scope) : Type 0 where
+  pub fewer : length env.structs ≤ length s.core.structs
+  pub members : (tag n : ℕ) (m : Member) → slice_get (members_of env.structs tag) n ≡ Some m
+      → slice_get (members_of s.core.structs tag) n ≡ Some m
+  pub locals : (name : List ℕ) (n : ℕ) (t : Ty) (readonly : Bool) → lookup env.names name ≡ Some (w.Local n t readonly)
+      → slice_get s.objects n ≡ Some t
+  pub globals : (name : List ℕ) (n : ℕ) (t : Ty) (readonly : Bool)
+      → lookup env.names name ≡ Some (w.Global n t readonly)
+      → (g : Global) × (slice_get s.core.globals n ≡ Some g) × (g.ty ≡ t)
+  pub functions : (place : ℕ) (f : Signature) → slice_get env.functions place ≡ Some f → f.is_defined ≡ true
+      → (g : Function) × (slice_get s.core.functions f.number ≡ Some g) × (g.params ≡ f.params) × (g.result ≡ f.result)
+  pub inside : s.inside ≡ env.inside
+  -- before the annotations are checked
+  pub early : s.annotated ≡ false
+
+-- a constant 0 is a pointer only where it stands beside one or is converted to one
+abbrev pub IsNoNull : Expr → Type 0
+IsNoNull e = zero_layer (out-Ty e.ty) ≡ true → is_constant e.kind ≡ false
+
+-- a value as an operand
+abbrev pub SoundValue : Scope → Expr → Type 0
+SoundValue s e = LawfulExpr s e × IsNoNull e
+
+-- ---- rows
+
+abbrev pub ConvertedIsLawful : Scope → Ty → Expr → Expr → Type 0
+ConvertedIsLawful s t e v = LawfulExpr s e → converted t e ≡ Some v → IsExpr s v t × (is_scalar t ≡ true)
+
+abbrev pub BinaryIsLawful : Env → Scope → BinaryOp → ℕ → Expr → Expr → Expr → Type 0
+BinaryIsLawful env s op line a b made =
+    Agrees env s → SoundValue s a → SoundValue s b → binary env op line (Some a) (Some b) ≡ Ok made → SoundValue s made
+
+abbrev pub ConditionalIsLawful : Scope → ℕ → Expr → Expr → Expr → Expr → Type 0
+ConditionalIsLawful s line test a b made =
+    LawfulExpr s test → LawfulExpr s a → LawfulExpr s b → conditional line (Some test) (Some a) (Some b) ≡ Ok made
+    → SoundValue s made
+
+-- an operand that is lawful; a function that stands for one is defined
+abbrev pub SoundOperand : Env → Scope → Operand → Type 0
+SoundOperand env s (o.Value e) = SoundValue s e
+SoundOperand env s (o.Place p readonly) = IsPlace s p p.ty × (is_const p.kind ≡ true → readonly ≡ true)
+SoundOperand env s (o.Function place) = (f : Signature) → slice_get env.functions place ≡ Some f → f.is_defined ≡ true
+SoundOperand env s (o.Builtin b) = Unit {0}
+
+abbrev pub AssignedIsLawful : Env → Scope → ℕ → Operand → Expr → Expr → Type 0
+AssignedIsLawful env s line to from made =
+    Agrees env s → SoundOperand env s to → LawfulExpr s from → assigned env line to (Some from) ≡ Ok made
+    → SoundValue s made
+
+abbrev pub UpdatedIsLawful : Env → Scope → BinaryOp → ℕ → Bool → Operand → Expr → Expr → Type 0
+UpdatedIsLawful env s op line old to by made =
+    Agrees env s → SoundOperand env s to → LawfulExpr s by → updated env op line old to (Some by) ≡ Ok made
+    → SoundValue s made
