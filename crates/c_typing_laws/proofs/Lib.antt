@@ -2,3 +2,8 @@ pub mod Same
 pub mod Conversions
 pub mod Operators
 pub mod Stores
+pub mod Values
+pub mod Places
+pub mod Calls
+pub mod Rows
+pub mod Whole

@@ -1,6 +1,9 @@
 -- What a checked expression is lawful in: where the names that are declared stand for what the program has.
-use Rattle.std.specs.Prelude.{◌≡◌, ℕ, ◌≤◌, Bool, true, false, List, length, slice_get, Some, Ok}
+use Rattle.std.specs.Prelude.{◌≡◌, ℕ, ◌≤◌, nat_le, Bool, true, false, ◌&&◌, List, [], ◌∷◌, length, slice_get, Option, Some, None, Ok}
 use Rattle.base16.specs.declared.operator.BinaryOp.{BinaryOp}
+use Rattle.c_tree.specs.declared.expression.Expr.{Expr as Source}
+use Rattle.c_tree.specs.declared.expression.ExprKind.{ExprKind as SourceKind, fold-ExprKind}
+use Rattle.c_tree.specs.declared.expression.ExprKind.TheOpen.{ExprKind-F}
 use Rattle.core_tree.specs.declared.types.Ty.{Ty, out-Ty}
 use Rattle.core_tree.specs.declared.types.Member.{Member}
 use Rattle.core_tree.specs.declared.expressions.Expr.{Expr}
@@ -11,6 +14,7 @@ use Rattle.core_tree.specs.Rules.{is_scalar, zero_layer}
 use Rattle.core_tree.specs.Lawful.{Scope, IsExpr, IsPlace, LawfulExpr, is_const, is_constant}
 use Rattle.c_typing.specs.declared.environment.Env.{Env}
 use Rattle.c_typing.specs.declared.environment.Signature.{Signature}
+use Rattle.c_typing.specs.declared.environment.What.{What}
 use Rattle.c_typing.specs.declared.environment.What.TheVariants as w
 use Rattle.c_typing.specs.declared.operand.Operand.{Operand}
 use Rattle.c_typing.specs.declared.operand.Operand.TheVariants as o
@@ -18,6 +22,7 @@ use Rattle.c_typing.specs.Scopes.{lookup}
 use Rattle.c_typing.specs.Values.{converted}
 use Rattle.c_typing.specs.Operators.{binary, conditional}
 use Rattle.c_typing.specs.Places.{assigned, updated}
+use Rattle.c_typing.specs.Expressions.{means}
 
 -- what is declared stands for what the program has: its complete structs, the objects of names, and the functions that
 -- are defined
@@ -74,3 +79,54 @@ abbrev pub UpdatedIsLawful : Env → Scope → BinaryOp → ℕ → Bool → Ope
 UpdatedIsLawful env s op line old to by made =
     Agrees env s → SoundOperand env s to → LawfulExpr s by → updated env op line old to (Some by) ≡ Ok made
     → SoundValue s made
+
+-- ---- whole expressions
+
+abbrev pub defined : Option Signature → Bool
+defined None = true
+defined (Some f) = f.is_defined
+
+-- a name that stands for a function stands for one that is defined
+abbrev pub name_fits : Env → Option What → Bool
+name_fits env (Some (w.Function place)) = defined (slice_get env.functions place)
+name_fits env what = true
+
+abbrev pub all_fit : List Bool → Bool
+all_fit [] = true
+all_fit (p ∷ ps) = p && all_fit ps
+
+abbrev pub layer_fits : Env → ExprKind-F Bool Bool Bool → Bool
+layer_fits env (ExprKind-F.Name name) = name_fits env (lookup env.names name)
+layer_fits env (ExprKind-F.Number n decimal unsigned) = nat_le n 65535
+layer_fits env (ExprKind-F.Char c) = nat_le c 255
+layer_fits env (ExprKind-F.Paren of) = of
+layer_fits env (ExprKind-F.Index of i) = of && i
+layer_fits env (ExprKind-F.Call callee arguments) = callee && all_fit arguments
+layer_fits env (ExprKind-F.Member of name) = of
+layer_fits env (ExprKind-F.Arrow of name) = of
+layer_fits env (ExprKind-F.PostIncrement of) = of
+layer_fits env (ExprKind-F.PostDecrement of) = of
+layer_fits env (ExprKind-F.PreIncrement of) = of
+layer_fits env (ExprKind-F.PreDecrement of) = of
+layer_fits env (ExprKind-F.AddressOf of) = of
+layer_fits env (ExprKind-F.Deref of) = of
+layer_fits env (ExprKind-F.Unary op of) = of
+layer_fits env (ExprKind-F.SizeofExpr of) = of
+layer_fits env (ExprKind-F.SizeofType of) = true
+layer_fits env (ExprKind-F.Cast to of) = of
+layer_fits env (ExprKind-F.Binary left op right) = left && right
+layer_fits env (ExprKind-F.And left right) = left && right
+layer_fits env (ExprKind-F.Or left right) = left && right
+layer_fits env (ExprKind-F.Conditional test one other) = test && (one && other)
+layer_fits env (ExprKind-F.Assign place op from) = place && from
+layer_fits env (ExprKind-F.Comma left right) = left && right
+
+-- numbers are at most 65,535, characters are bytes, and the functions that are named are defined; the sizes in the names
+-- of types are not asked
+abbrev pub fits : Env → SourceKind → Bool
+fits env = fold-ExprKind Bool Bool Bool (layer_fits env) (λ e. e.kind) (λ t. true)
+
+-- an expression with no fault is lawful
+abbrev pub MeansIsLawful : Env → Scope → Source → Operand → Type 0
+MeansIsLawful env s e x =
+    Agrees env s → fits env e.kind ≡ true → means env e ≡ Ok x → SoundOperand env s x

@@ -1,11 +1,12 @@
 ghost use Rattle.std.specs.Prelude.{ℕ, Bool};
 ghost use Rattle.base16.specs.declared.operator.BinaryOp.{BinaryOp};
+ghost use Rattle.c_tree.specs.declared.expression.Expr.{Expr as Source};
 ghost use Rattle.core_tree.specs.declared.types.Ty.{Ty};
 ghost use Rattle.core_tree.specs.declared.expressions.Expr.{Expr};
 ghost use Rattle.core_tree.specs.Lawful.{Scope};
 ghost use Rattle.c_typing.specs.declared.environment.Env.{Env};
 ghost use Rattle.c_typing.specs.declared.operand.Operand.{Operand};
-ghost use Rattle.c_typing_laws.specs.Sound.{AssignedIsLawful, BinaryIsLawful, ConditionalIsLawful, ConvertedIsLawful, UpdatedIsLawful};
+ghost use Rattle.c_typing_laws.specs.Sound.{AssignedIsLawful, BinaryIsLawful, ConditionalIsLawful, ConvertedIsLawful, MeansIsLawful, UpdatedIsLawful};
 
 /// What a lawful expression converts to, as if by assignment, has the type to which it does, which is a scalar.
 pub fn converted_is_lawful()
@@ -34,4 +35,10 @@ pub fn assigned_is_lawful()
 pub fn updated_is_lawful()
     ensures { (env : Env) → (s : Scope) → (op : BinaryOp) → (line : ℕ) → (old : Bool) → (to : Operand) → (by : Expr)
         → (made : Expr) → UpdatedIsLawful env s op line old to by made }
+{}
+
+/// Every expression that breaks no rule is lawful, where what is declared agrees with the program, the functions that it
+/// names are defined, and the annotations are not checked yet.
+pub fn expressions_are_lawful()
+    ensures { (env : Env) → (s : Scope) → (e : Source) → (x : Operand) → MeansIsLawful env s e x }
 {}

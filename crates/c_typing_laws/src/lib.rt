@@ -5,5 +5,5 @@ mod laws;
 
 pub use laws::{
     assigned_is_lawful, binary_is_lawful, conditional_is_lawful, converted_is_lawful,
-    updated_is_lawful,
+    expressions_are_lawful, updated_is_lawful,
 };
