@@ -78,7 +78,8 @@ call_of_sound : (env : Env) (s : Scope) (line : ℕ) (f : Signature) (g : Functi
     → call_of line f args ≡ Ok x → SoundOperand env s x
 call_of_sound env s line f g xs None x agree stands params result sx at_args is = absurd (search rules)
 call_of_sound env s line f g xs (Some args) x agree stands params result sx at_args is =
-    let w = granted (length args == length f.params) (operand.Value (typed line f.result (k.Call f.number args))) x WrongArgs is in
+    let w = granted (length args == length f.params)
+    (operand.Value (typed line f.result (k.Call f.number args))) x WrongArgs is in
     let typed_args : AreExprs s args f.params =
     passed_typed env s f.params xs args agree sx at_args (number_is (length args) (length f.params) w.0) in
     let in_order : AreExprs s args g.params = rw params typed_args in

@@ -7,3 +7,4 @@ pub mod Places
 pub mod Calls
 pub mod Rows
 pub mod Whole
+pub mod Examples

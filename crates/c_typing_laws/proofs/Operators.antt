@@ -72,7 +72,9 @@ integers_sound : (s : Scope) (o : BinaryOp) (line : ℕ) (x y : IntType) (a b v 
 unfolding integers
 integers_sound s o line x y a b v i j is =
     let whole = integers_lawful s o line x y a b i j in
-    let plain : is_constant (k.Binary o (computed_in o x y) (to_int x (computed_in o x y) a) (to_int y (right_in o x y) b)) ≡ false = search (rules, kind_lemmas) in
+    let left : Expr = to_int x (computed_in o x y) a in
+    let right : Expr = to_int y (right_in o x y) b in
+    let plain : is_constant (k.Binary o (computed_in o x y) left right) ≡ false = search (rules, kind_lemmas) in
     rw (← is) (own_type s _ _ whole, λ pointer. plain)
 
 equality_no_order : (o : BinaryOp) → is_equality o ≡ true → (is_comparison o ≡ true) × (is_order o ≡ true → false ≡ true)
@@ -118,7 +120,8 @@ module _ (env : Env) (s : Scope) (agree : Agrees env s) (o : BinaryOp) (line : �
   pointer_integer_by true q to r t a b v at_p at_q at_a i j is =
       let w = on_complete_lawful env s to _ v agree is in
       let plain : is_constant (k.PointerPlus (is_minus o) a b) ≡ false = search (rules, kind_lemmas) in
-      rw (← w.1) (sound_node s line a.ty (k.PointerPlus (is_minus o) a b) plain (typed_as s a.ty (ty.Pointer to r) _ at_a (pointer_plus (is_minus o) a b to r t w.0 i j)))
+      rw (← w.1) (sound_node s line a.ty (k.PointerPlus (is_minus o) a b) plain
+      (typed_as s a.ty (ty.Pointer to r) _ at_a (pointer_plus (is_minus o) a b to r t w.0 i j)))
   pointer_integer_by false true to r t a b v at_p at_q at_a i j is =
       pointer_null_sound s o line to r a b v (null a.ty b) at_q at_a i refl is
   pointer_integer_by false false to r t a b v at_p at_q at_a i j is = absurd (search rules)
@@ -138,7 +141,8 @@ module _ (env : Env) (s : Scope) (agree : Agrees env s) (o : BinaryOp) (line : �
   integer_pointer_by true q to r t a b v at_p at_q at_b i j is =
       let w = on_complete_lawful env s to _ v agree is in
       let plain : is_constant (k.PointerPlus false a b) ≡ false = search (rules, kind_lemmas) in
-      rw (← w.1) (sound_node s line b.ty (k.PointerPlus false a b) plain (typed_as s b.ty (ty.Pointer to r) _ at_b (plus_pointer a b to r t w.0 i j)))
+      rw (← w.1) (sound_node s line b.ty (k.PointerPlus false a b) plain
+      (typed_as s b.ty (ty.Pointer to r) _ at_b (plus_pointer a b to r t w.0 i j)))
   integer_pointer_by false true to r t a b v at_p at_q at_b i j is =
       null_pointer_sound s o line to r a b v (null b.ty a) at_q at_b j refl is
   integer_pointer_by false false to r t a b v at_p at_q at_b i j is = absurd (search rules)

@@ -90,7 +90,8 @@ module _ (env : Env) (s : Scope) (agree : Agrees env s) where
 
   integer_update_typed : (o : BinaryOp) (own by : IntType) (p : Place) (v : Expr) (old : Bool) → is_comparison o ≡ false
       → IsStored s p (ty.Num own) (is_marked env p) → IsExpr s (to_int by (right_in o own by) v) (ty.Num (right_in o own by))
-      → HasType s (k.Update o (Some (computed_in o own by)) p (to_int by (right_in o own by) v) old (is_marked env p)) (ty.Num own)
+      → HasType s (k.Update o (Some (computed_in o own by)) p (to_int by (right_in o own by) v) old (is_marked env p))
+      (ty.Num own)
   integer_update_typed op.Shl own by p v old plain at_p i =
       shifted op.Shl own (promoted by) p _ old (is_marked env p) refl (promoted_computed by) at_p i
   integer_update_typed op.Shr own by p v old plain at_p i =
@@ -124,7 +125,8 @@ module _ (env : Env) (s : Scope) (agree : Agrees env s) where
       let plain : is_constant kind ≡ false = search (rules, kind_lemmas) in
       rw (← c.1) (sound_node s line p.ty kind plain (typed_as s p.ty (ty.Pointer to r) kind g
       (moved o to r by p v old (is_marked env p) fits c.0
-      (store_to p (ty.Pointer to r) readonly g sp.0 (scalar_at (ty.Pointer to r) (Ty-F.Pointer to r) (search (rules, the_lemmas)) refl) sp.1 w.0)
+      (store_to p (ty.Pointer to r) readonly g sp.0
+      (scalar_at (ty.Pointer to r) (Ty-F.Pointer to r) (search (rules, the_lemmas)) refl) sp.1 w.0)
       (at_layer s v (ty.Num by) h i))))
   updated_by_sound o line old p readonly l m v x at_p at_v fits sp i is = absurd (search rules)
 

@@ -137,143 +137,146 @@ module _ (env : Env) (s : Scope) where
           let o : out-ExprKind (roll-ExprKind x) ≡ ExprKind-F.Name n = search (rules, the_lemmas) in
           let f : fits env (k.Name n) ≡ true = rw h at fine in
           let g : name_fits env (lookup env.names n) ≡ true = search (rules, the_lemmas) in
-          node_sound (roll-ExprKind x) (ExprKind-F.Name n) line r o (g) (tt) at
+          node_sound (roll-ExprKind x) (ExprKind-F.Name n) line r o g tt at
       layer_sound x (ExprKind-F.Number n d u) is fine line r at =
           let h : roll-ExprKind x ≡ k.Number n d u = search (rules, the_lemmas) in
           let o : out-ExprKind (roll-ExprKind x) ≡ ExprKind-F.Number n d u = search (rules, the_lemmas) in
           let f : fits env (k.Number n d u) ≡ true = rw h at fine in
           let g : nat_le n 65535 ≡ true = search (rules, the_lemmas) in
-          node_sound (roll-ExprKind x) (ExprKind-F.Number n d u) line r o (g) (tt) at
+          node_sound (roll-ExprKind x) (ExprKind-F.Number n d u) line r o g tt at
       layer_sound x (ExprKind-F.Char c) is fine line r at =
           let h : roll-ExprKind x ≡ k.Char c = search (rules, the_lemmas) in
           let o : out-ExprKind (roll-ExprKind x) ≡ ExprKind-F.Char c = search (rules, the_lemmas) in
           let f : fits env (k.Char c) ≡ true = rw h at fine in
           let g : nat_le c 255 ≡ true = search (rules, the_lemmas) in
-          node_sound (roll-ExprKind x) (ExprKind-F.Char c) line r o (g) (tt) at
+          node_sound (roll-ExprKind x) (ExprKind-F.Char c) line r o g tt at
       layer_sound x (ExprKind-F.Paren b) is fine line r at =
           let h : roll-ExprKind x ≡ k.Paren (source b) = search (rules, the_lemmas) in
           let o : out-ExprKind (roll-ExprKind x) ≡ ExprKind-F.Paren (source b) = search (rules, the_lemmas) in
           let f : fits env (k.Paren (source b)) ≡ true = rw h at fine in
           let g : fit (source b) ≡ true = search (rules, the_lemmas) in
-          node_sound (roll-ExprKind x) (ExprKind-F.Paren (source b)) line r o (tt) (one_use b g) at
+          node_sound (roll-ExprKind x) (ExprKind-F.Paren (source b)) line r o tt (one_use b g) at
       layer_sound x (ExprKind-F.Index b c) is fine line r at =
           let h : roll-ExprKind x ≡ k.Index (source b) (source c) = search (rules, the_lemmas) in
           let o : out-ExprKind (roll-ExprKind x) ≡ ExprKind-F.Index (source b) (source c) = search (rules, the_lemmas) in
           let f : fits env (k.Index (source b) (source c)) ≡ true = rw h at fine in
           let g : (fit (source b) && fit (source c)) ≡ true = search (rules, the_lemmas) in
-          node_sound (roll-ExprKind x) (ExprKind-F.Index (source b) (source c)) line r o (tt) (two_uses b c g) at
+          node_sound (roll-ExprKind x) (ExprKind-F.Index (source b) (source c)) line r o tt (two_uses b c g) at
       layer_sound x (ExprKind-F.Call b bs) is fine line r at =
           let h : roll-ExprKind x ≡ k.Call (source b) (map source bs) = search (rules, the_lemmas) in
           let o : out-ExprKind (roll-ExprKind x) ≡ ExprKind-F.Call (source b) (map source bs) = search (rules, the_lemmas) in
           let f : fits env (k.Call (source b) (map source bs)) ≡ true = rw h at fine in
           let g : (fit (source b) && all_fit (map fit (map source bs))) ≡ true = search (rules, the_lemmas) in
-          node_sound (roll-ExprKind x) (ExprKind-F.Call (source b) (map source bs)) line r o (tt) (call_uses b bs g) at
+          node_sound (roll-ExprKind x) (ExprKind-F.Call (source b) (map source bs)) line r o tt (call_uses b bs g) at
       layer_sound x (ExprKind-F.Member b n) is fine line r at =
           let h : roll-ExprKind x ≡ k.Member (source b) n = search (rules, the_lemmas) in
           let o : out-ExprKind (roll-ExprKind x) ≡ ExprKind-F.Member (source b) n = search (rules, the_lemmas) in
           let f : fits env (k.Member (source b) n) ≡ true = rw h at fine in
           let g : fit (source b) ≡ true = search (rules, the_lemmas) in
-          node_sound (roll-ExprKind x) (ExprKind-F.Member (source b) n) line r o (tt) (one_use b g) at
+          node_sound (roll-ExprKind x) (ExprKind-F.Member (source b) n) line r o tt (one_use b g) at
       layer_sound x (ExprKind-F.Arrow b n) is fine line r at =
           let h : roll-ExprKind x ≡ k.Arrow (source b) n = search (rules, the_lemmas) in
           let o : out-ExprKind (roll-ExprKind x) ≡ ExprKind-F.Arrow (source b) n = search (rules, the_lemmas) in
           let f : fits env (k.Arrow (source b) n) ≡ true = rw h at fine in
           let g : fit (source b) ≡ true = search (rules, the_lemmas) in
-          node_sound (roll-ExprKind x) (ExprKind-F.Arrow (source b) n) line r o (tt) (one_use b g) at
+          node_sound (roll-ExprKind x) (ExprKind-F.Arrow (source b) n) line r o tt (one_use b g) at
       layer_sound x (ExprKind-F.PostIncrement b) is fine line r at =
           let h : roll-ExprKind x ≡ k.PostIncrement (source b) = search (rules, the_lemmas) in
           let o : out-ExprKind (roll-ExprKind x) ≡ ExprKind-F.PostIncrement (source b) = search (rules, the_lemmas) in
           let f : fits env (k.PostIncrement (source b)) ≡ true = rw h at fine in
           let g : fit (source b) ≡ true = search (rules, the_lemmas) in
-          node_sound (roll-ExprKind x) (ExprKind-F.PostIncrement (source b)) line r o (tt) (one_use b g) at
+          node_sound (roll-ExprKind x) (ExprKind-F.PostIncrement (source b)) line r o tt (one_use b g) at
       layer_sound x (ExprKind-F.PostDecrement b) is fine line r at =
           let h : roll-ExprKind x ≡ k.PostDecrement (source b) = search (rules, the_lemmas) in
           let o : out-ExprKind (roll-ExprKind x) ≡ ExprKind-F.PostDecrement (source b) = search (rules, the_lemmas) in
           let f : fits env (k.PostDecrement (source b)) ≡ true = rw h at fine in
           let g : fit (source b) ≡ true = search (rules, the_lemmas) in
-          node_sound (roll-ExprKind x) (ExprKind-F.PostDecrement (source b)) line r o (tt) (one_use b g) at
+          node_sound (roll-ExprKind x) (ExprKind-F.PostDecrement (source b)) line r o tt (one_use b g) at
       layer_sound x (ExprKind-F.PreIncrement b) is fine line r at =
           let h : roll-ExprKind x ≡ k.PreIncrement (source b) = search (rules, the_lemmas) in
           let o : out-ExprKind (roll-ExprKind x) ≡ ExprKind-F.PreIncrement (source b) = search (rules, the_lemmas) in
           let f : fits env (k.PreIncrement (source b)) ≡ true = rw h at fine in
           let g : fit (source b) ≡ true = search (rules, the_lemmas) in
-          node_sound (roll-ExprKind x) (ExprKind-F.PreIncrement (source b)) line r o (tt) (one_use b g) at
+          node_sound (roll-ExprKind x) (ExprKind-F.PreIncrement (source b)) line r o tt (one_use b g) at
       layer_sound x (ExprKind-F.PreDecrement b) is fine line r at =
           let h : roll-ExprKind x ≡ k.PreDecrement (source b) = search (rules, the_lemmas) in
           let o : out-ExprKind (roll-ExprKind x) ≡ ExprKind-F.PreDecrement (source b) = search (rules, the_lemmas) in
           let f : fits env (k.PreDecrement (source b)) ≡ true = rw h at fine in
           let g : fit (source b) ≡ true = search (rules, the_lemmas) in
-          node_sound (roll-ExprKind x) (ExprKind-F.PreDecrement (source b)) line r o (tt) (one_use b g) at
+          node_sound (roll-ExprKind x) (ExprKind-F.PreDecrement (source b)) line r o tt (one_use b g) at
       layer_sound x (ExprKind-F.AddressOf b) is fine line r at =
           let h : roll-ExprKind x ≡ k.AddressOf (source b) = search (rules, the_lemmas) in
           let o : out-ExprKind (roll-ExprKind x) ≡ ExprKind-F.AddressOf (source b) = search (rules, the_lemmas) in
           let f : fits env (k.AddressOf (source b)) ≡ true = rw h at fine in
           let g : fit (source b) ≡ true = search (rules, the_lemmas) in
-          node_sound (roll-ExprKind x) (ExprKind-F.AddressOf (source b)) line r o (tt) (one_use b g) at
+          node_sound (roll-ExprKind x) (ExprKind-F.AddressOf (source b)) line r o tt (one_use b g) at
       layer_sound x (ExprKind-F.Deref b) is fine line r at =
           let h : roll-ExprKind x ≡ k.Deref (source b) = search (rules, the_lemmas) in
           let o : out-ExprKind (roll-ExprKind x) ≡ ExprKind-F.Deref (source b) = search (rules, the_lemmas) in
           let f : fits env (k.Deref (source b)) ≡ true = rw h at fine in
           let g : fit (source b) ≡ true = search (rules, the_lemmas) in
-          node_sound (roll-ExprKind x) (ExprKind-F.Deref (source b)) line r o (tt) (one_use b g) at
+          node_sound (roll-ExprKind x) (ExprKind-F.Deref (source b)) line r o tt (one_use b g) at
       layer_sound x (ExprKind-F.Unary op b) is fine line r at =
           let h : roll-ExprKind x ≡ k.Unary op (source b) = search (rules, the_lemmas) in
           let o : out-ExprKind (roll-ExprKind x) ≡ ExprKind-F.Unary op (source b) = search (rules, the_lemmas) in
           let f : fits env (k.Unary op (source b)) ≡ true = rw h at fine in
           let g : fit (source b) ≡ true = search (rules, the_lemmas) in
-          node_sound (roll-ExprKind x) (ExprKind-F.Unary op (source b)) line r o (tt) (one_use b g) at
+          node_sound (roll-ExprKind x) (ExprKind-F.Unary op (source b)) line r o tt (one_use b g) at
       layer_sound x (ExprKind-F.SizeofExpr b) is fine line r at =
           let h : roll-ExprKind x ≡ k.SizeofExpr (source b) = search (rules, the_lemmas) in
           let o : out-ExprKind (roll-ExprKind x) ≡ ExprKind-F.SizeofExpr (source b) = search (rules, the_lemmas) in
           let f : fits env (k.SizeofExpr (source b)) ≡ true = rw h at fine in
           let g : fit (source b) ≡ true = search (rules, the_lemmas) in
-          node_sound (roll-ExprKind x) (ExprKind-F.SizeofExpr (source b)) line r o (tt) (one_use b g) at
+          node_sound (roll-ExprKind x) (ExprKind-F.SizeofExpr (source b)) line r o tt (one_use b g) at
       layer_sound x (ExprKind-F.SizeofType t) is fine line r at =
           let h : roll-ExprKind x ≡ k.SizeofType (name t) = search (rules, the_lemmas) in
           let o : out-ExprKind (roll-ExprKind x) ≡ ExprKind-F.SizeofType (name t) = search (rules, the_lemmas) in
-          node_sound (roll-ExprKind x) (ExprKind-F.SizeofType (name t)) line r o (tt) (size_uses (sizes_of (name t))) at
+          node_sound (roll-ExprKind x) (ExprKind-F.SizeofType (name t)) line r o tt (size_uses (sizes_of (name t))) at
       layer_sound x (ExprKind-F.Cast t b) is fine line r at =
           let h : roll-ExprKind x ≡ k.Cast (name t) (source b) = search (rules, the_lemmas) in
           let o : out-ExprKind (roll-ExprKind x) ≡ ExprKind-F.Cast (name t) (source b) = search (rules, the_lemmas) in
           let f : fits env (k.Cast (name t) (source b)) ≡ true = rw h at fine in
           let g : fit (source b) ≡ true = search (rules, the_lemmas) in
-          node_sound (roll-ExprKind x) (ExprKind-F.Cast (name t) (source b)) line r o (tt) (cast_uses (sizes_of (name t)) (source b) (use_of (source b) (deeper b) g)) at
+          node_sound (roll-ExprKind x) (ExprKind-F.Cast (name t) (source b)) line r o tt
+          (cast_uses (sizes_of (name t)) (source b) (use_of (source b) (deeper b) g)) at
       layer_sound x (ExprKind-F.Binary b op c) is fine line r at =
           let h : roll-ExprKind x ≡ k.Binary (source b) op (source c) = search (rules, the_lemmas) in
           let o : out-ExprKind (roll-ExprKind x) ≡ ExprKind-F.Binary (source b) op (source c) = search (rules, the_lemmas) in
           let f : fits env (k.Binary (source b) op (source c)) ≡ true = rw h at fine in
           let g : (fit (source b) && fit (source c)) ≡ true = search (rules, the_lemmas) in
-          node_sound (roll-ExprKind x) (ExprKind-F.Binary (source b) op (source c)) line r o (tt) (two_uses b c g) at
+          node_sound (roll-ExprKind x) (ExprKind-F.Binary (source b) op (source c)) line r o tt (two_uses b c g) at
       layer_sound x (ExprKind-F.And b c) is fine line r at =
           let h : roll-ExprKind x ≡ k.And (source b) (source c) = search (rules, the_lemmas) in
           let o : out-ExprKind (roll-ExprKind x) ≡ ExprKind-F.And (source b) (source c) = search (rules, the_lemmas) in
           let f : fits env (k.And (source b) (source c)) ≡ true = rw h at fine in
           let g : (fit (source b) && fit (source c)) ≡ true = search (rules, the_lemmas) in
-          node_sound (roll-ExprKind x) (ExprKind-F.And (source b) (source c)) line r o (tt) (two_uses b c g) at
+          node_sound (roll-ExprKind x) (ExprKind-F.And (source b) (source c)) line r o tt (two_uses b c g) at
       layer_sound x (ExprKind-F.Or b c) is fine line r at =
           let h : roll-ExprKind x ≡ k.Or (source b) (source c) = search (rules, the_lemmas) in
           let o : out-ExprKind (roll-ExprKind x) ≡ ExprKind-F.Or (source b) (source c) = search (rules, the_lemmas) in
           let f : fits env (k.Or (source b) (source c)) ≡ true = rw h at fine in
           let g : (fit (source b) && fit (source c)) ≡ true = search (rules, the_lemmas) in
-          node_sound (roll-ExprKind x) (ExprKind-F.Or (source b) (source c)) line r o (tt) (two_uses b c g) at
+          node_sound (roll-ExprKind x) (ExprKind-F.Or (source b) (source c)) line r o tt (two_uses b c g) at
       layer_sound x (ExprKind-F.Conditional b c d) is fine line r at =
           let h : roll-ExprKind x ≡ k.Conditional (source b) (source c) (source d) = search (rules, the_lemmas) in
-          let o : out-ExprKind (roll-ExprKind x) ≡ ExprKind-F.Conditional (source b) (source c) (source d) = search (rules, the_lemmas) in
+          let o : out-ExprKind (roll-ExprKind x) ≡ ExprKind-F.Conditional (source b) (source c) (source d) =
+          search (rules, the_lemmas) in
           let f : fits env (k.Conditional (source b) (source c) (source d)) ≡ true = rw h at fine in
           let g : (fit (source b) && (fit (source c) && fit (source d))) ≡ true = search (rules, the_lemmas) in
-          node_sound (roll-ExprKind x) (ExprKind-F.Conditional (source b) (source c) (source d)) line r o (tt) (three_uses b c d g) at
+          node_sound (roll-ExprKind x) (ExprKind-F.Conditional (source b) (source c) (source d)) line r o tt
+          (three_uses b c d g) at
       layer_sound x (ExprKind-F.Assign b op c) is fine line r at =
           let h : roll-ExprKind x ≡ k.Assign (source b) op (source c) = search (rules, the_lemmas) in
           let o : out-ExprKind (roll-ExprKind x) ≡ ExprKind-F.Assign (source b) op (source c) = search (rules, the_lemmas) in
           let f : fits env (k.Assign (source b) op (source c)) ≡ true = rw h at fine in
           let g : (fit (source b) && fit (source c)) ≡ true = search (rules, the_lemmas) in
-          node_sound (roll-ExprKind x) (ExprKind-F.Assign (source b) op (source c)) line r o (tt) (two_uses b c g) at
+          node_sound (roll-ExprKind x) (ExprKind-F.Assign (source b) op (source c)) line r o tt (two_uses b c g) at
       layer_sound x (ExprKind-F.Comma b c) is fine line r at =
           let h : roll-ExprKind x ≡ k.Comma (source b) (source c) = search (rules, the_lemmas) in
           let o : out-ExprKind (roll-ExprKind x) ≡ ExprKind-F.Comma (source b) (source c) = search (rules, the_lemmas) in
           let f : fits env (k.Comma (source b) (source c)) ≡ true = rw h at fine in
           let g : (fit (source b) && fit (source c)) ≡ true = search (rules, the_lemmas) in
-          node_sound (roll-ExprKind x) (ExprKind-F.Comma (source b) (source c)) line r o (tt) (two_uses b c g) at
+          node_sound (roll-ExprKind x) (ExprKind-F.Comma (source b) (source c)) line r o tt (two_uses b c g) at
 
       source_sound : (x : Expr-F SourceKind Source Typename) (y : Expr-F A B C)
           → map-Expr A B C SourceKind Source Typename kind_of source name y ≡ x

@@ -6,7 +6,8 @@ ghost use Rattle.core_tree.specs.declared.expressions.Expr.{Expr};
 ghost use Rattle.core_tree.specs.Lawful.{Scope};
 ghost use Rattle.c_typing.specs.declared.environment.Env.{Env};
 ghost use Rattle.c_typing.specs.declared.operand.Operand.{Operand};
-ghost use Rattle.c_typing_laws.specs.Sound.{AssignedIsLawful, BinaryIsLawful, ConditionalIsLawful, ConvertedIsLawful, MeansIsLawful, UpdatedIsLawful};
+ghost use Rattle.c_typing_laws.specs.Sound.{AssignedIsLawful, BinaryIsLawful, ConditionalIsLawful, ConvertedIsLawful};
+ghost use Rattle.c_typing_laws.specs.Sound.{MeansIsLawful, UpdatedIsLawful};
 
 /// What a lawful expression converts to, as if by assignment, has the type to which it does, which is a scalar.
 pub fn converted_is_lawful()
