@@ -1,0 +1,12 @@
+pub mod Annotations
+pub mod Calls
+pub mod Checked
+pub mod Constants
+pub mod Declarators
+pub mod Externals
+pub mod Functions
+pub mod Initialisers
+pub mod Locals
+pub mod Numbering
+pub mod Statements
+pub mod Walk
