@@ -35,7 +35,7 @@ use Rattle.c_typing.specs.Calls.{number}
 use Rattle.c_typing.specs.declared.environment.Env.{Env}
 use Rattle.c_checking.specs.Walk.{single, one_by_one}
 use Rattle.c_checking.specs.Statements.{compound, block_item, statement, statement_kind, return_stmt, result_of}
-use Rattle.c_checking.specs.Calls.{compound_calls, expr_calls}
+use Rattle.c_checking.specs.Calls.{in_compound, in_expr, or_later}
 use Rattle.c_checking.specs.Numbering.{numbered, stmt_numbered}
 use Rattle.c_checking.specs.Externals.{global}
 use Rattle.c_checking.specs.Functions.{Head, head, function, function_rule, entering, declared, signature, left, function_of, with_body}
@@ -97,16 +97,18 @@ int_is_sized : (env : Env) → is_sized env (ty.Num Int) ≡ true
 unfolding is_sized
 int_is_sized env = search (rules, type_lemmas)
 
-no_calls_in_number : (n line : ℕ) → expr_calls (number_at n line) ≡ []
-no_calls_in_number n line = search (rules, source_lemmas)
+no_calls_in_number : (names : List (List ℕ)) (n line : ℕ) → in_expr names (number_at n line) ≡ None
+no_calls_in_number names n line = search (rules, source_lemmas)
 
-calls_in_return : (e : Source) (at : ℕ) → compound_calls (roll-Compound (record { items = return_of e at ∷ [] }))
-    ≡ expr_calls e ++ []
+calls_in_return : (names : List (List ℕ)) (e : Source) (at : ℕ)
+    → in_compound names (roll-Compound (record { items = return_of e at ∷ [] })) ≡ or_later (in_expr names e) None
 unfolding return_of
-calls_in_return e at = search (rules, item_lemmas)
+calls_in_return names e at = search (rules, item_lemmas)
 
-no_calls : (n line at : ℕ) → compound_calls (roll-Compound (record { items = return_of (number_at n line) at ∷ [] })) ≡ []
-no_calls n line at = calls_in_return (number_at n line) at ∙ ap (λ xs. xs ++ []) (no_calls_in_number n line)
+no_calls : (names : List (List ℕ)) (n line at : ℕ)
+    → in_compound names (roll-Compound (record { items = return_of (number_at n line) at ∷ [] })) ≡ None
+no_calls names n line at =
+    calls_in_return names (number_at n line) at ∙ ap (λ found. or_later found None) (no_calls_in_number names n line)
 
 pub means_number : (env : Env) (n line : ℕ) → means env (number_at n line) ≡ Ok (number line n false)
 unfolding kind_step
@@ -221,4 +223,4 @@ main_stands = search (rules, type_lemmas)
 returns_seven : checked tree_of_main ≡ Ok (record { core = main_core })
 unfolding checked
 returns_seven =
-    rw main_is (rw (no_calls 7 2 2) (rw main_stands (rw numbers_are refl)))
+    rw main_is (rw (no_calls (codes "main" ∷ []) 7 2 2) (rw main_stands (rw numbers_are refl)))

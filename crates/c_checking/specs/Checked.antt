@@ -16,7 +16,7 @@ use Rattle.c_checking.specs.declared.draft.Draft.{Draft}
 use Rattle.c_checking.specs.Declarators.{base_of}
 use Rattle.c_checking.specs.Externals.{Step, in_turn, globals, structure_with}
 use Rattle.c_checking.specs.Functions.{function}
-use Rattle.c_checking.specs.Calls.{Call, calls, definitions, first_undefined}
+use Rattle.c_checking.specs.Calls.{definitions, first_undefined}
 use Rattle.c_checking.specs.Numbering.{numbered}
 
 -- ---- the walk
@@ -59,9 +59,9 @@ abbrev pub core_of : Draft → Core
 core_of d = record { structs = d.env.structs; globals = d.globals; functions = d.functions }
 
 -- a call of a function that is never defined
-abbrev pub with_definitions : Option Call → Draft → Outcome Draft
+abbrev pub with_definitions : Option ℕ → Draft → Outcome Draft
 with_definitions None d = Ok d
-with_definitions (Some c) d = broken Incomplete c.line
+with_definitions (Some line) d = broken Incomplete line
 
 abbrev pub is_empty : {A : Type 0} → List A → Bool
 is_empty [] = true
@@ -82,5 +82,5 @@ with_main d = if has_main d.functions then Ok d else broken NoMain 0
 
 unfoldable pub checked : Tree → Outcome Typed
 checked tree =
-    walked tree >>= λ d. with_definitions (first_undefined (definitions tree) (calls tree)) d >>= λ d. with_main d >>= λ d.
+    walked tree >>= λ d. with_definitions (first_undefined tree) d >>= λ d. with_main d >>= λ d.
     Ok (record { core = numbered (core_of d) })
