@@ -13,5 +13,5 @@ pub use laws::{
     frames_lie_apart, scalars_are_aligned, scalars_fit, scalars_rise, sizes_are_even,
     stamps_lie_behind, variables_lie_apart,
 };
-pub use layouts::{Laid, slots_of, structs_laid};
+pub use layouts::{Laid, slots_of, small_type_laid, structs_laid};
 pub use variables::scalars;
