@@ -1,0 +1,4 @@
+pub mod Addresses
+pub mod NodeLines
+pub mod Placed
+pub mod StateText
