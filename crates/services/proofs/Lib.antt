@@ -6,3 +6,4 @@ pub mod Logs
 pub mod Machines
 pub mod Fitting
 pub mod Counting
+pub mod Few

@@ -3,12 +3,14 @@
 #![tactic(auto)]
 
 mod acting;
+mod bounds;
 mod gated;
 mod laws;
 mod serving;
 mod storing;
 
 pub use acting::Committed;
+pub use bounds::a_service_takes_few_ticks;
 pub use gated::Gated;
 pub use laws::{
     a_commit_is_where_the_machine_stands, a_service_is_counted_by_the_machine,
