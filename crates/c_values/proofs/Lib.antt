@@ -1,3 +1,4 @@
+pub mod Extents
 pub mod Halving
 pub mod Putting
 pub mod Stores

@@ -1,3 +1,4 @@
+pub mod Extents
 pub mod Objects
 pub mod Operators
 pub mod Ordered

@@ -4,7 +4,9 @@ ghost use Rattle.std.specs.Prelude.{◌≡◌, ◌≤◌, ◌<◌, length, map, 
 ghost use Rattle.std.specs.Option.{option_copied};
 ghost use Rattle.c_values.specs.Objects as spec;
 ghost use Rattle.c_values.specs.Ordered as ordered;
+ghost use Rattle.c_values.specs.Extents as extents;
 
+use crate::extent::end_of_cells;
 use crate::value::{Cell, Value};
 use base16::{NoMemory, Sequence};
 use std::alloc::Global;
@@ -16,6 +18,8 @@ pub struct Cells {
     items: Sequence<Cell>,
     /// Whether each offset is above the one before it.
     rising: bool,
+    /// The greatest offset that a pointer into the object has.
+    end: u32,
 }
 
 impl Model for Cells {
@@ -25,10 +29,11 @@ impl Model for Cells {
     ghost Value = { List ACell };
 
     ghost use Rattle.c_values.specs.Ordered.{rises_from};
+    ghost use Rattle.c_values.specs.Extents.{end_of_cells};
 
     ghost view = { λ c. c.items };
 
-    ghost invariant = { λ c. c.rising ≡ rises_from 0 c.items };
+    ghost invariant = { λ c. (c.rising ≡ rises_from 0 c.items) × (c.end ≡ end_of_cells c.items) };
 }
 
 /// Whether each offset is above the one before it.
@@ -155,9 +160,11 @@ impl Cells {
         ensures { result ≡ items.items }
     {
         let rising = is_rising(items.as_slice());
+        let end = end_of_cells(items.as_slice());
         Cells {
             items: Sequence::from_vec(items),
             rising,
+            end,
         }
     }
 
@@ -188,7 +195,7 @@ impl Cells {
     }
 
     /// Sets the scalar at an offset, if there is one.
-    #[tactic(auto, using(crate::proofs::Halving::rises_put))]
+    #[tactic(auto, using(crate::proofs::Halving::rises_put, crate::proofs::Extents::end_put))]
     pub fn put(&mut self, offset: u32, value: Value)
         ensures { self.new ≡ map (spec.put_cell offset value) self.old }
     {
@@ -200,11 +207,20 @@ impl Cells {
     }
 
     /// Makes all scalars undefined.
-    #[tactic(auto, using(crate::proofs::Halving::rises_cleared))]
+    #[tactic(auto, using(crate::proofs::Halving::rises_cleared, crate::proofs::Extents::end_cleared))]
     pub fn clear(&mut self)
         ensures { self.new ≡ map spec.cleared_cell self.old }
     {
         clear_all(&mut self.items);
+    }
+
+    /// The greatest offset that a pointer into the object has.
+    #[tactic(auto, using(crate::proofs::Extents::end_low))]
+    pub fn end(&self) -> u32
+        ensures value { result ≡ extents.end_of_cells self.now }
+        ensures high { result < 65536 }
+    {
+        self.end
     }
 
     /// The same scalars in memory of their own.
@@ -215,6 +231,7 @@ impl Cells {
         Ok(Cells {
             items: Sequence::from_vec(items),
             rising: self.rising,
+            end: self.end,
         })
     }
 }

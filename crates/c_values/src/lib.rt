@@ -3,6 +3,7 @@
 
 mod cells;
 mod comparisons;
+mod extent;
 mod find;
 mod operators;
 mod pointers;

@@ -6,56 +6,15 @@ ghost use Rattle.c_values.specs.Pointers as spec;
 
 use crate::find::object_of;
 use crate::state::{Object, State};
-use crate::value::{Cell, Location, Value};
-use base16::{BinaryOp, Kind};
-
-fn is_wide(kind: Kind) -> bool
-    ensures { result ≡ objects.wide kind }
-{
-    match kind {
-        Kind::Char => false,
-        Kind::Int | Kind::UInt | Kind::Pointer => true,
-    }
-}
-
-fn reach(cell: &Cell) -> u32
-    ensures value { result ≡ objects.reach cell.now }
-    ensures high { result < 65538 }
-{
-    u32::from(cell.offset) + if is_wide(cell.kind) { 2 } else { 1 }
-}
-
-fn reach_of(cells: &[Cell]) -> u32
-    ensures value { result ≡ objects.reach_of cells.now }
-    ensures high { result < 65538 }
-{
-    let mut far = 0;
-    for cell in cells {
-        far = far.max(reach(cell));
-    }
-    far
-}
-
-fn some_wide(cells: &[Cell]) -> bool
-    ensures { result ≡ objects.some_wide cells.now }
-{
-    for cell in cells {
-        if is_wide(cell.kind) {
-            return true;
-        }
-    }
-    false
-}
+use crate::value::{Location, Value};
+use base16::BinaryOp;
 
 /// The greatest offset that a pointer into an object has.
 pub fn end_of(object: &Object) -> u32
     ensures value { result ≡ spec.end_of object.now }
     ensures high { result < 65536 }
 {
-    let cells = object.cells.as_slice();
-    let far = reach_of(cells);
-    let size = if some_wide(cells) { far + far % 2 } else { far };
-    size.min(65535)
+    object.cells.end()
 }
 
 /// A place in an object.
