@@ -18,7 +18,7 @@ use Rattle.c_typing.specs.declared.environment.Env.{Env}
 use Rattle.c_typing.specs.declared.environment.Signature.{Signature}
 use Rattle.c_typing.specs.Values.{typed, value}
 use Rattle.c_typing.specs.Calls.{accepted, and_these, passed, call_of, function_call, channel, sensed, emitted, checkpointed, builtin_call, called}
-use Rattle.c_typing_laws.specs.Sound.{Agrees, SoundOperand}
+use Rattle.c_typing_laws.specs.Sound.{Agrees, IsDefined, SoundOperand}
 use Rattle.c_typing_laws.proofs.Conversions.{converted_lawful}
 use Rattle.c_typing_laws.proofs.Operators.{sound_node, typed_as}
 use Rattle.c_typing_laws.proofs.Values.{granted, SoundOption, value_sound}
@@ -90,11 +90,11 @@ call_of_sound env s line f g xs (Some args) x agree stands params result sx at_a
     (typed_as s f.result g.result (k.Call f.number args) (sym result) has))
 
 function_call_sound : (env : Env) (s : Scope) (line : ℕ) (f : Option Signature) (place : ℕ) (xs : List Operand)
-    (x : Operand) → Agrees env s → slice_get env.functions place ≡ f → SoundOperand env s (operand.Function place)
+    (x : Operand) → Agrees env s → slice_get env.functions place ≡ f → IsDefined env s place
     → AllSound env s xs → function_call line f xs ≡ Ok x → SoundOperand env s x
 function_call_sound env s line None place xs x agree at_f sf sx is = absurd (search rules)
 function_call_sound env s line (Some f) place xs x agree at_f sf sx is =
-    let g = agree.functions place f at_f (sf f at_f) in
+    let g = sf f at_f in
     call_of_sound env s line f g.0 xs (passed f.params xs) x agree g.1 g.2 g.3 sx refl is
 
 -- ---- `sense`, `emit` and `checkpoint`
@@ -150,9 +150,10 @@ builtin_call_sound env s line builtin.Emit xs x agree sx is =
 builtin_call_sound env s line builtin.Checkpoint xs x agree sx is = checkpointed_sound env s line (passed [] xs) x is
 
 pub called_row : (env : Env) (s : Scope) (line : ℕ) (f : Operand) (xs : List Operand) (x : Operand) → Agrees env s
-    → SoundOperand env s f → AllSound env s xs → called env line f xs ≡ Ok x → SoundOperand env s x
-called_row env s line (operand.Function place) xs x agree sf sx is =
-    function_call_sound env s line (slice_get env.functions place) place xs x agree refl sf sx is
+    → ((place : ℕ) → f ≡ operand.Function place → IsDefined env s place) → AllSound env s xs → called env line f xs ≡ Ok x
+    → SoundOperand env s x
+called_row env s line (operand.Function place) xs x agree there sx is =
+    function_call_sound env s line (slice_get env.functions place) place xs x agree refl (there place refl) sx is
 called_row env s line (operand.Builtin b) xs x agree sf sx is = builtin_call_sound env s line b xs x agree sx is
 called_row env s line (operand.Value e) xs x agree sf sx is = absurd (search rules)
 called_row env s line (operand.Place p readonly) xs x agree sf sx is = absurd (search rules)

@@ -1,6 +1,6 @@
 -- A worked example: where `int x;` is declared and nothing else, the environment agrees with the program, and `x + 1` is
 -- lawful.
-use Rattle.std.proofs.Common.{◌≡◌, ℕ, Bool, true, false, cond, bytes_eq, [], ◌∷◌, slice_get, Some, None, Ok, refl, rules, arith}
+use Rattle.std.proofs.Common.{◌≡◌, ℕ, Bool, true, false, cond, bytes_eq, List, [], ◌∷◌, slice_get, Some, None, Ok, refl, rules, arith}
 use Rattle.std.specs.Prelude.{codes, pos}
 use Rattle.base16.specs.declared.integer.IntType.TheVariants.{Int}
 use Rattle.base16.specs.declared.operator.BinaryOp.TheVariants as op
@@ -20,7 +20,7 @@ use Rattle.c_typing.specs.Values.{typed, placed, value, to_int}
 use Rattle.c_typing.specs.Calls.{named}
 use Rattle.c_typing.specs.Operators.{binary, integers}
 use Rattle.c_typing.specs.Expressions.{kind_step, means}
-use Rattle.c_typing_laws.specs.Sound.{Agrees, fits}
+use Rattle.c_typing_laws.specs.Sound.{Agrees, AreDefined, fits}
 use Rattle.c_typing_laws.proofs.Whole.{means_lawful}
 
 abbrev env : Env
@@ -63,7 +63,6 @@ agrees = record {
   members = λ tag n m is. absurd (search rules);
   locals = λ name n t readonly is. local_by (bytes_eq (codes "x") name) n t readonly is;
   globals = λ name n t readonly is. absurd (global_by (bytes_eq (codes "x") name) n t readonly is);
-  functions = λ place f is. absurd (search rules);
   inside = refl;
   early = refl;
 }
@@ -83,8 +82,18 @@ sum_means : means env sum ≡ Ok (operand.Value added)
 unfolding kind_step named value binary integers to_int
 sum_means = search (rules, the_lemmas, type_lemmas)
 
-sum_fits : fits env sum.kind ≡ true
+nothing : List ℕ → Bool
+nothing name = false
+
+function_by : (b : Bool) (place : ℕ) → cond b (Some (w.Local 0 (ty.Num Int) false)) None ≡ Some (w.Function place) → ⊥
+function_by true place is = cc
+function_by false place is = cc
+
+no_calls : AreDefined nothing env scope
+no_calls name place is called = absurd (function_by (bytes_eq (codes "x") name) place is)
+
+sum_fits : fits nothing sum.kind ≡ true
 sum_fits = search (rules, the_lemmas)
 
 pub sum_is_lawful : LawfulExpr scope added
-sum_is_lawful = (means_lawful env scope sum (operand.Value added) agrees sum_fits sum_means).0
+sum_is_lawful = (means_lawful nothing env scope sum (operand.Value added) agrees no_calls sum_fits sum_means).0

@@ -6,5 +6,6 @@ pub mod Values
 pub mod Places
 pub mod Calls
 pub mod Rows
+pub mod Names
 pub mod Whole
 pub mod Examples

@@ -18,7 +18,6 @@ use Rattle.c_typing.specs.declared.operand.Operand.{Operand}
 use Rattle.c_typing.specs.declared.operand.Operand.TheVariants as operand
 use Rattle.c_typing.specs.declared.operand.Builtin.{Builtin}
 use Rattle.c_typing.specs.declared.environment.Env.{Env}
-use Rattle.c_typing.specs.declared.environment.Signature.{Signature}
 use Rattle.c_typing.specs.declared.environment.What.{What}
 use Rattle.c_typing.specs.declared.environment.What.TheVariants as w
 use Rattle.c_typing.specs.Scopes.{Found, member_from, is_const_member, is_complete, lookup}
@@ -26,7 +25,7 @@ use Rattle.c_typing.specs.Values.{typed, placed, value}
 use Rattle.c_typing.specs.Places.{pointed_at, at_by, at_values, element, indexed_by, indexed, member_place, member_by, member_in, member, arrow_by, arrow, deref_by, deref, address_by, address}
 use Rattle.c_typing.specs.Calls.{or_builtin, builtin_named, named}
 use Rattle.c_typing.proofs.LawfulOperands.{address_lawful}
-use Rattle.c_typing_laws.specs.Sound.{Agrees, SoundValue, SoundOperand, defined, name_fits}
+use Rattle.c_typing_laws.specs.Sound.{Agrees, SoundValue, SoundOperand}
 use Rattle.c_typing_laws.proofs.Conversions.{at_layer}
 use Rattle.c_typing_laws.proofs.Operators.{complete_lawful}
 use Rattle.c_typing_laws.proofs.Values.{granted, SoundOption, value_sound, integer_is}
@@ -266,24 +265,20 @@ builtin_sound : (env : Env) (s : Scope) (b : Option Builtin) (x : Operand) → o
 builtin_sound env s None x is = absurd (search rules)
 builtin_sound env s (Some b) x is = let e : operand.Builtin b ≡ x = cc in rw (← e) tt
 
-defined_at : (f : Option Signature) (g : Signature) → defined f ≡ true → f ≡ Some g → g.is_defined ≡ true
-defined_at None g fits is = absurd (search rules)
-defined_at (Some f) g fits is = let e : f ≡ g = cc in rw (← e) fits
-
 pub named_row : (env : Env) (s : Scope) (line : ℕ) (name : List ℕ) (what : Option What) (x : Operand) → Agrees env s
-    → lookup env.names name ≡ what → name_fits env what ≡ true → named line name what ≡ Ok x → SoundOperand env s x
+    → lookup env.names name ≡ what → named line name what ≡ Ok x → SoundOperand env s x
 unfolding named
-named_row env s line name None x agree found fits is = builtin_sound env s (builtin_named name) x is
-named_row env s line name (Some (w.Local n t readonly)) x agree found fits is =
+named_row env s line name None x agree found is = builtin_sound env s (builtin_named name) x is
+named_row env s line name (Some (w.Local n t readonly)) x agree found is =
     let e : operand.Place (placed line t (pk.Local n)) readonly ≡ x = cc in
     rw (← e) (sound_place env s line t (pk.Local n) readonly (local n t (agree.locals name n t readonly found))
     (never (is_const (pk.Local n)) readonly (const_local n)))
-named_row env s line name (Some (w.Global n t readonly)) x agree found fits is =
+named_row env s line name (Some (w.Global n t readonly)) x agree found is =
     let g = agree.globals name n t readonly found in
     let of : g.0.ty ≡ t = g.2 in
     let has : HasPlaceType s (pk.Global n) t = rw (← of) (global n g.0 g.1) in
     let e : operand.Place (placed line t (pk.Global n)) readonly ≡ x = cc in
     rw (← e) (sound_place env s line t (pk.Global n) readonly has (never (is_const (pk.Global n)) readonly (const_global n)))
-named_row env s line name (Some (w.Function place)) x agree found fits is =
+named_row env s line name (Some (w.Function place)) x agree found is =
     let e : operand.Function place ≡ x = cc in
-    rw (← e) (λ f at. defined_at (slice_get env.functions place) f fits at)
+    rw (← e) tt

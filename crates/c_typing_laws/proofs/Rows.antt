@@ -19,31 +19,32 @@ use Rattle.c_typing.specs.Places.{address, assigned, updated, stepped, operand_t
 use Rattle.c_typing.specs.Calls.{number, character}
 use Rattle.c_typing.specs.TypeNames.{type_named, count_of, size_of_operand, size_of_named, cast, sizes_before, last_value}
 use Rattle.core_tree.specs.declared.expressions.ExprKind.TheVariants as k
-use Rattle.c_typing.specs.Expressions.{Use, plain, size, sources, operands, row, words_of, sizes_of}
-use Rattle.c_typing_laws.specs.Sound.{Agrees, SoundValue, SoundOperand, name_fits}
+use Rattle.c_typing.specs.Expressions.{Use, plain, size, sources, operands, row, means, words_of, sizes_of}
+use Rattle.c_typing_laws.specs.Sound.{Agrees, IsDefined, SoundValue, SoundOperand}
 use Rattle.c_typing_laws.proofs.Values.{SoundOption, value_sound, number_sound, character_sound, unary_row, and_row, or_row, sequence_row, binary_row, conditional_row, assigned_row, updated_row, size_of_row, size_of_named_row, cast_row}
 use Rattle.c_typing_laws.proofs.Stores.{stepped_sound}
 use Rattle.c_typing_laws.proofs.Places.{indexed_row, member_row, arrow_row, deref_row, address_row, named_row}
 use Rattle.c_typing_laws.proofs.Calls.{AllSound, called_row}
 
 module _ (env : Env) (s : Scope) where
-  -- what these operands stand for is lawful; of a size nothing is asked
+  -- what these operands stand for, which is lawful; of a size nothing is asked
   abbrev pub Sounds : List (Use Source) → List Operand → Type 0
   Sounds [] [] = Unit {0}
   Sounds [] (x ∷ xs) = ⊥
   Sounds (u ∷ us) [] = ⊥
-  Sounds (plain e ∷ us) (x ∷ xs) = SoundOperand env s x × Sounds us xs
+  Sounds (plain e ∷ us) (x ∷ xs) = (SoundOperand env s x × (means env e ≡ Ok x)) × Sounds us xs
   Sounds (size e ∷ us) (x ∷ xs) = Sounds us xs
 
   sounds_all : (es : List Source) (xs : List Operand) → Sounds (map plain es) xs → AllSound env s xs
   sounds_all [] [] so = tt
   sounds_all [] (x ∷ xs) so = absurd so
   sounds_all (e ∷ es) [] so = absurd so
-  sounds_all (e ∷ es) (x ∷ xs) so = (so.0, sounds_all es xs so.1)
+  sounds_all (e ∷ es) (x ∷ xs) so = (so.0.0, sounds_all es xs so.1)
 
   -- what is asked of a node besides its operands
   abbrev pub Asked : ExprKind-F SourceKind Source Typename → Type 0
-  Asked (ExprKind-F.Name name) = name_fits env (lookup env.names name) ≡ true
+  Asked (ExprKind-F.Call callee arguments) =
+      (place : ℕ) → means env callee ≡ Ok (operand.Function place) → IsDefined env s place
   Asked (ExprKind-F.Number n decimal unsigned) = nat_le n 65535 ≡ true
   Asked (ExprKind-F.Char c) = nat_le c 255 ≡ true
   Asked layer = Unit {0}
@@ -60,7 +61,7 @@ module _ (env : Env) (s : Scope) where
     last_sound : (ss : List Source) (e : Source) (xs : List Operand) → Sounds (map size ss ++ plain e ∷ []) xs
         → SoundOption s (last_value xs)
     last_sound [] e [] so = absurd so
-    last_sound [] e (x ∷ []) so = valued_of x so.0
+    last_sound [] e (x ∷ []) so = valued_of x so.0.0
     last_sound [] e (x ∷ y ∷ ys) so = absurd so.1
     last_sound (z ∷ zs) e [] so = absurd so
     last_sound (z ∷ []) e (x ∷ []) so = absurd so
@@ -80,7 +81,7 @@ module _ (env : Env) (s : Scope) where
         → ((a : Operand) → SoundOperand env s a → by (a ∷ []) ≡ Ok r → SoundOperand env s r)
         → (xs : List Operand) → Sounds (plain e ∷ []) xs → by xs ≡ Ok r → SoundOperand env s r
     of_one e by r sound [] so is = absurd so
-    of_one e by r sound (a ∷ []) so is = sound a so.0 is
+    of_one e by r sound (a ∷ []) so is = sound a so.0.0 is
     of_one e by r sound (a ∷ b ∷ xs) so is = absurd so.1
 
     of_two : (e f : Source) (by : List Operand → Result Operand Rule) (r : Operand)
@@ -89,7 +90,7 @@ module _ (env : Env) (s : Scope) where
         → (xs : List Operand) → Sounds (plain e ∷ plain f ∷ []) xs → by xs ≡ Ok r → SoundOperand env s r
     of_two e f by r sound [] so is = absurd so
     of_two e f by r sound (a ∷ xs) so is =
-        of_one f (λ ys. by (a ∷ ys)) r (λ b sb at. sound a b so.0 sb at) xs so.1 is
+        of_one f (λ ys. by (a ∷ ys)) r (λ b sb at. sound a b so.0.0 sb at) xs so.1 is
 
     of_three : (e f g : Source) (by : List Operand → Result Operand Rule) (r : Operand)
         → ((a b c : Operand) → SoundOperand env s a → SoundOperand env s b → SoundOperand env s c
@@ -97,7 +98,7 @@ module _ (env : Env) (s : Scope) where
         → (xs : List Operand) → Sounds (plain e ∷ plain f ∷ plain g ∷ []) xs → by xs ≡ Ok r → SoundOperand env s r
     of_three e f g by r sound [] so is = absurd so
     of_three e f g by r sound (a ∷ xs) so is =
-        of_two f g (λ ys. by (a ∷ ys)) r (λ b c sb sc at. sound a b c so.0 sb sc at) xs so.1 is
+        of_two f g (λ ys. by (a ∷ ys)) r (λ b c sb sc at. sound a b c so.0.0 sb sc at) xs so.1 is
 
     stepped_row : (o : BinaryOp) (old : Bool) (a r : Operand) → SoundOperand env s a
         → valued (stepped env o line old a) ≡ Ok r → SoundOperand env s r
@@ -105,11 +106,11 @@ module _ (env : Env) (s : Scope) where
         of_value (stepped env o line old a) r (λ v at. stepped_sound env s o line old a v agree sa at) is
 
     call_sound : (callee : Source) (arguments : List Source) (xs : List Operand) (r : Operand)
-        → Sounds (plain callee ∷ map plain arguments) xs → row_of (ExprKind-F.Call callee arguments) xs ≡ Ok r
+        → Asked (ExprKind-F.Call callee arguments) → Sounds (plain callee ∷ map plain arguments) xs → row_of (ExprKind-F.Call callee arguments) xs ≡ Ok r
         → SoundOperand env s r
-    call_sound callee arguments [] r so is = absurd so
-    call_sound callee arguments (f ∷ xs) r so is =
-        called_row env s line f xs r agree so.0 (sounds_all arguments xs so.1) is
+    call_sound callee arguments [] r asked so is = absurd so
+    call_sound callee arguments (f ∷ xs) r asked so is =
+        called_row env s line f xs r agree (λ place at. asked place (rw at at so.0.1)) (sounds_all arguments xs so.1) is
 
     -- a store, plain or with an operator
     store_sound : (o : Option BinaryOp) (e f : Source) (a b r : Operand) → SoundOperand env s a → SoundOperand env s b
@@ -128,7 +129,7 @@ module _ (env : Env) (s : Scope) where
     pub row_sound : (layer : ExprKind-F SourceKind Source Typename) (xs : List Operand) → IsRow layer xs
     row_sound (ExprKind-F.Name name) xs r asked so is =
         of_none (row_of (ExprKind-F.Name name)) r
-        (λ at. named_row env s line name (lookup env.names name) r agree refl asked at) xs so is
+        (λ at. named_row env s line name (lookup env.names name) r agree refl at) xs so is
     row_sound (ExprKind-F.Number n d u) xs r asked so is =
         of_none (row_of (ExprKind-F.Number n d u)) r
         (λ at. let e : number line n u ≡ r = cc in rw (← e) (number_sound env s line n u asked)) xs so is
@@ -140,7 +141,7 @@ module _ (env : Env) (s : Scope) where
     row_sound (ExprKind-F.Index e f) xs r asked so is =
         of_two e f (row_of (ExprKind-F.Index e f)) r
         (λ a b sa sb at. indexed_row env s line a (value b) r agree sa (valued_of b sb) at) xs so is
-    row_sound (ExprKind-F.Call callee arguments) xs r asked so is = call_sound callee arguments xs r so is
+    row_sound (ExprKind-F.Call callee arguments) xs r asked so is = call_sound callee arguments xs r asked so is
     row_sound (ExprKind-F.Member e name) xs r asked so is =
         of_one e (row_of (ExprKind-F.Member e name)) r (λ a sa at. member_row env s line name a r agree sa at) xs so is
     row_sound (ExprKind-F.Arrow e name) xs r asked so is =

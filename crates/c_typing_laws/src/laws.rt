@@ -1,4 +1,4 @@
-ghost use Rattle.std.specs.Prelude.{ℕ, Bool};
+ghost use Rattle.std.specs.Prelude.{ℕ, Bool, List};
 ghost use Rattle.base16.specs.declared.operator.BinaryOp.{BinaryOp};
 ghost use Rattle.c_tree.specs.declared.expression.Expr.{Expr as Source};
 ghost use Rattle.core_tree.specs.declared.types.Ty.{Ty};
@@ -39,7 +39,8 @@ pub fn updated_is_lawful()
 {}
 
 /// Every expression that breaks no rule is lawful, where what is declared agrees with the program, the functions that it
-/// names are defined, and the annotations are not checked yet.
+/// calls are defined in it, before the call or behind it, and the annotations are not checked yet.
 pub fn expressions_are_lawful()
-    ensures { (env : Env) → (s : Scope) → (e : Source) → (x : Operand) → MeansIsLawful env s e x }
+    ensures { (calls : List ℕ → Bool) → (env : Env) → (s : Scope) → (e : Source) → (x : Operand)
+        → MeansIsLawful calls env s e x }
 {}
