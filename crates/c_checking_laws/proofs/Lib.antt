@@ -1,0 +1,11 @@
+pub mod Lists
+pub mod Walks
+pub mod Points
+pub mod Labels
+pub mod Statements
+pub mod Sizes
+pub mod Leaves
+pub mod Initialisers
+pub mod Locals
+pub mod Texts
+pub mod Functions

@@ -1,0 +1,56 @@
+ghost use Rattle.std.specs.Prelude.{ℕ, Bool, List, Option};
+ghost use Rattle.c_tree.specs.declared.qualified.Spec.{Spec};
+ghost use Rattle.c_tree.specs.declared.declarations.Init.{Init};
+ghost use Rattle.c_tree.specs.declared.declarations.Initial.{Initial};
+ghost use Rattle.c_tree.specs.declared.statements.Compound.{Compound};
+ghost use Rattle.c_tree.specs.declared.unit.Function.{Function};
+ghost use Rattle.core_tree.specs.declared.types.Ty.{Ty};
+ghost use Rattle.core_tree.specs.declared.statements.Init.{Init as Store};
+ghost use Rattle.core_tree.specs.declared.statements.Stmt.{Stmt};
+ghost use Rattle.core_tree.specs.declared.program.Core.{Core};
+ghost use Rattle.core_tree.specs.LawfulCore.{Text};
+ghost use Rattle.c_typing.specs.declared.environment.Env.{Env};
+ghost use Rattle.c_checking.specs.Functions.{Head};
+ghost use Rattle.c_checking_laws.specs.Standing.{ExpressionsMayRest};
+ghost use Rattle.c_checking_laws.specs.Accepted.{ObjectIsWhole, StoresAreLawful, DeclaratorIsLawful, BlockIsLawful};
+ghost use Rattle.c_checking_laws.specs.Accepted.{HeadIsLawful, FunctionIsLawful};
+
+/// Expressions of a function may rest on what is declared at their point of the text.
+pub fn expressions_may_rest()
+    ensures { (calls : List ℕ → Bool) → (core : Core) → (env : Env) → (objects : List Ty)
+        → ExpressionsMayRest calls core env objects }
+{}
+
+/// A type that breaks no rule of objects is an object of the program, of at most 16,383 bytes, with the layout and the
+/// scalars that it has where it is declared.
+pub fn objects_are_whole()
+    ensures { (core : Core) → (env : Env) → (t : Ty) → ObjectIsWhole core env t }
+{}
+
+/// An initialiser of a local stores into each scalar of its object, or into none, a lawful value of its type or zero.
+pub fn stores_are_lawful()
+    ensures { (calls : List ℕ → Bool) → (core : Core) → (env : Env) → (x : Text) → (line : ℕ) → (t : Ty)
+        → (i : Option Initial) → (all : List Store) → StoresAreLawful calls core env x line t i all }
+{}
+
+/// A declarator of a block that breaks no rule declares the next local, an object, and is a lawful statement.
+pub fn declarators_are_lawful()
+    ensures { (calls : List ℕ → Bool) → (core : Core) → (sp : Spec) → (i : Init) → DeclaratorIsLawful calls core sp i }
+{}
+
+/// Statements in braces that break no rule are lawful in the function around them, and what is declared stands behind them.
+pub fn blocks_are_lawful()
+    ensures { (calls : List ℕ → Bool) → (core : Core) → (body : Compound) → (breaks : Bool) → (continues : Bool)
+        → BlockIsLawful calls core body breaks continues }
+{}
+
+/// The parameters of a function that breaks no rule are integers and pointers, and its result is one or `void`.
+pub fn heads_are_lawful()
+    ensures { (core : Core) → (env : Env) → (f : Function) → (h : Head) → HeadIsLawful core env f h }
+{}
+
+/// A function whose head and body break no rule is lawful.
+pub fn functions_are_lawful()
+    ensures { (calls : List ℕ → Bool) → (core : Core) → (env : Env) → (f : Function) → (h : Head) → (body : Compound)
+        → (all : List Stmt) → (behind : Env) → FunctionIsLawful calls core env f h body all behind }
+{}

@@ -1,0 +1,9 @@
+//! Laws on checking: what the check of a source accepts is lawful.
+#![tactic(auto)]
+
+mod laws;
+
+pub use laws::{
+    blocks_are_lawful, declarators_are_lawful, expressions_may_rest, functions_are_lawful,
+    heads_are_lawful, objects_are_whole, stores_are_lawful,
+};
