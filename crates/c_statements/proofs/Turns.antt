@@ -14,7 +14,7 @@ use Rattle.core_tree.specs.declared.statements.Group.{Group as CoreGroup}
 use Rattle.core_tree.specs.declared.statements.Stmt.{Stmt}
 use Rattle.c_typing.specs.declared.fault.Fault.{Fault}
 use Rattle.c_typing.specs.declared.environment.Env.{Env}
-use Rattle.c_typing.specs.Outcome.{Outcome, ◌>>=◌}
+use Rattle.c_typing.specs.Outcome.{Outcome}
 use Rattle.c_checking.specs.Walk.{Walk, and_then, one_by_one, single}
 use Rattle.c_checking.specs.Locals.{local}
 use Rattle.c_checking.specs.Statements.{statement, block_item, compound, labels_of, groups_of, group_of}
