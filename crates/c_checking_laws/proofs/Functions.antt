@@ -349,3 +349,10 @@ function_lawful calls core env f h body all behind d none hd named fine is =
   where
     lengths_at_most : (xs ys : List Ty) → xs ≡ ys → length xs ≤ length ys
     lengths_at_most xs ys same = let e : length xs ≡ length ys = ap (λ ls. length ls) same in omega arith
+
+-- the parameters of a function with a body have names
+pub head_named : (env : Env) (f : SourceFunction) (h : Head) → each_is param_fits (listed f.params) ≡ true
+    → each_is is_named (listed f.params) ≡ true → head env f ≡ Ok h
+    → Every (λ (p : Parameter). is_some p.name ≡ true) h.params
+head_named env f h fine named is =
+    named_of (listed f.params) h.params named (head_parts env f h fine is).parameters

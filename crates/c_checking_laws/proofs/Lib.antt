@@ -9,3 +9,6 @@ pub mod Initialisers
 pub mod Locals
 pub mod Texts
 pub mod Functions
+pub mod Steady
+pub mod FileScope
+pub mod Sources

@@ -1,6 +1,6 @@
 -- What a source has that its text gives: numbers are at most 65,535 and characters are bytes, what is called is a function of
 -- the source, and `break` and `continue` have something to leave.
-use Rattle.std.specs.Prelude.{ℕ, nat_le, Bool, true, false, ◌&&◌, List, [], ◌∷◌, length, is_some, Option, Some, None}
+use Rattle.std.specs.Prelude.{ℕ, nat_le, Bool, true, false, ◌&&◌, ◌||◌, List, [], ◌∷◌, length, is_some, Option, Some, None}
 use Rattle.c_tree.specs.declared.expression.Expr.{Expr}
 use Rattle.c_tree.specs.declared.declarations.Initial.{Initial, fold-Initial}
 use Rattle.c_tree.specs.declared.declarations.Initial.TheOpen.{Initial-F}
@@ -13,7 +13,17 @@ use Rattle.c_tree.specs.declared.statements.BlockItem.{BlockItem, fold-BlockItem
 use Rattle.c_tree.specs.declared.statements.BlockItem.TheOpen.{BlockItem-F, StatementKind-F}
 use Rattle.c_tree.specs.declared.statements.Compound.{Compound, fold-Compound}
 use Rattle.c_tree.specs.declared.unit.Param.{Param}
+use Rattle.c_tree.specs.declared.unit.Member.{Member}
+use Rattle.c_tree.specs.declared.unit.Struct.{Struct}
+use Rattle.c_tree.specs.declared.unit.Function.{Function}
+use Rattle.c_tree.specs.declared.unit.External.{External}
+use Rattle.c_tree.specs.declared.unit.External.TheVariants as external
+use Rattle.c_tree.specs.declared.unit.Tree.{Tree}
+use Rattle.c_typing.specs.Calls.{builtin_named}
 use Rattle.c_typing_laws.specs.Sound.{fits}
+use Rattle.c_checking.specs.Externals.{is_one_of}
+use Rattle.c_checking.specs.Functions.{listed}
+use Rattle.c_checking.specs.Calls.{definitions}
 
 abbrev pub each_is : {A : Type 0} → (A → Bool) → List A → Bool
 each_is p [] = true
@@ -106,3 +116,32 @@ param_fits p = bounds_fit p.first_bound p.bounds
 -- each has a name where a function has a body
 abbrev pub is_named : Param → Bool
 is_named p = is_some p.name
+
+-- ---- parts of a source
+
+-- a name of a function of the source, or of one that every source has
+abbrev pub is_known : List (List ℕ) → List ℕ → Bool
+is_known names name = is_one_of names name || is_some (builtin_named name)
+
+module _ (calls : List ℕ → Bool) where
+  abbrev pub body_fits : List Param → Option Compound → Bool
+  body_fits ps None = true
+  body_fits ps (Some body) = each_is is_named ps && compound_fits calls body false false
+
+  abbrev pub function_fits : Function → Bool
+  function_fits f = each_is param_fits (listed f.params) && body_fits (listed f.params) f.body
+
+  -- a struct has a member, and each declaration of members declares one
+  abbrev pub has_declr : Member → Bool
+  has_declr m = nat_le 1 (length m.declrs)
+
+  abbrev pub struct_fits : Struct → Bool
+  struct_fits s = nat_le 1 (length s.members) && each_is has_declr s.members
+
+  abbrev pub external_fits : External → Bool
+  external_fits (external.Struct defined inits) = struct_fits defined && inits_fit calls inits
+  external_fits (external.Function is_static f) = function_fits f
+  external_fits (external.Declaration is_static lifetime d) = inits_fit calls d.inits
+
+abbrev pub tree_fits : Tree → Bool
+tree_fits tree = each_is (external_fits (is_known (definitions tree))) tree.externals

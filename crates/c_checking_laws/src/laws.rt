@@ -4,16 +4,20 @@ ghost use Rattle.c_tree.specs.declared.declarations.Init.{Init};
 ghost use Rattle.c_tree.specs.declared.declarations.Initial.{Initial};
 ghost use Rattle.c_tree.specs.declared.statements.Compound.{Compound};
 ghost use Rattle.c_tree.specs.declared.unit.Function.{Function};
+ghost use Rattle.c_tree.specs.declared.unit.External.{External};
+ghost use Rattle.c_tree.specs.declared.unit.Tree.{Tree};
 ghost use Rattle.core_tree.specs.declared.types.Ty.{Ty};
 ghost use Rattle.core_tree.specs.declared.statements.Init.{Init as Store};
 ghost use Rattle.core_tree.specs.declared.statements.Stmt.{Stmt};
 ghost use Rattle.core_tree.specs.declared.program.Core.{Core};
 ghost use Rattle.core_tree.specs.LawfulCore.{Text};
 ghost use Rattle.c_typing.specs.declared.environment.Env.{Env};
+ghost use Rattle.c_checking.specs.declared.draft.Draft.{Draft};
 ghost use Rattle.c_checking.specs.Functions.{Head};
 ghost use Rattle.c_checking_laws.specs.Standing.{ExpressionsMayRest};
 ghost use Rattle.c_checking_laws.specs.Accepted.{ObjectIsWhole, StoresAreLawful, DeclaratorIsLawful, BlockIsLawful};
 ghost use Rattle.c_checking_laws.specs.Accepted.{HeadIsLawful, FunctionIsLawful};
+ghost use Rattle.c_checking_laws.specs.Walked.{PointStands, FunctionsOfSource};
 
 /// Expressions of a function may rest on what is declared at their point of the text.
 pub fn expressions_may_rest()
@@ -53,4 +57,16 @@ pub fn heads_are_lawful()
 pub fn functions_are_lawful()
     ensures { (calls : List ℕ → Bool) → (core : Core) → (env : Env) → (f : Function) → (h : Head) → (body : Compound)
         → (all : List Stmt) → (behind : Env) → FunctionIsLawful calls core env f h body all behind }
+{}
+
+/// At each point between two parts of a source that breaks no rule, what is declared stands for what the whole has in the
+/// end: its first structs, its variables with their types, and the functions that it defines, before that point or behind.
+pub fn points_stand()
+    ensures { (tree : Tree) → (before : List External) → (after : List External) → (d : Draft) → (last : Draft)
+        → PointStands tree before after d last }
+{}
+
+/// Each function of a source that breaks no rule is lawful in the program that the walk makes.
+pub fn functions_of_sources_are_lawful()
+    ensures { (tree : Tree) → (last : Draft) → FunctionsOfSource tree last }
 {}

@@ -5,5 +5,6 @@ mod laws;
 
 pub use laws::{
     blocks_are_lawful, declarators_are_lawful, expressions_may_rest, functions_are_lawful,
-    heads_are_lawful, objects_are_whole, stores_are_lawful,
+    functions_of_sources_are_lawful, heads_are_lawful, objects_are_whole, points_stand,
+    stores_are_lawful,
 };
