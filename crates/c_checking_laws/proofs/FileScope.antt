@@ -195,7 +195,7 @@ module _ (names : List (List ℕ)) where
 
   -- ---- structs
 
-  struct_advances : (s : SourceStruct) → Advances names [] (structure s)
+  pub struct_advances : (s : SourceStruct) → Advances names [] (structure s)
   unfolding structure
   struct_advances s d behind a is =
       let t = then_is (checked_fields (defining s.name d.env) s) _ behind is in
@@ -303,7 +303,7 @@ module _ (names : List (List ℕ)) where
         named = sym (append-nil (defined_names d.functions));
       }
 
-  global_advances : (base : Env → Result Qualified Rule) (i : Init) → Advances names [] (global base i)
+  pub global_advances : (base : Env → Result Qualified Rule) (i : Init) → Advances names [] (global base i)
   unfolding global
   global_advances base i d behind a is =
       let t = then_is (declared_type d.env i.line (base d.env) i.declr.stars i.declr.bounds) _ behind is in
@@ -331,7 +331,7 @@ module _ (names : List (List ℕ)) where
       last : {p q : Draft} → ◌≡◌ {A = Outcome Draft} (Ok p) (Ok q) → p ≡ q
       last is = cc
 
-  globals_advance : (base : Env → Result Qualified Rule) (is : List Init) → Advances names [] (globals base is)
+  pub globals_advance : (base : Env → Result Qualified Rule) (is : List Init) → Advances names [] (globals base is)
   globals_advance base [] = nothing_advances
   globals_advance base (i ∷ is) =
       both_advance [] [] (global base i) (globals base is) (global_advances base i) (globals_advance base is)

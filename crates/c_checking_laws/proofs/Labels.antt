@@ -20,10 +20,10 @@ use Rattle.c_checking.specs.Statements.{same_label, stands_in, case_value, once,
 
 -- ---- values of types
 
-char_fits : (n : ℕ) → n ≤ 255 → is_value Char (pos n) ≡ true
+pub char_fits : (n : ℕ) → n ≤ 255 → is_value Char (pos n) ≡ true
 char_fits n h = grind (arith, tests)
 
-word_fits : (n : ℕ) → n ≤ 65535 → is_value UInt (pos n) ≡ true
+pub word_fits : (n : ℕ) → n ≤ 65535 → is_value UInt (pos n) ≡ true
 word_fits n h = grind (arith, tests)
 
 positive_fits : (n : ℕ) → n ≤ 32767 → is_value Int (pos n) ≡ true
@@ -38,11 +38,11 @@ is_less n m is = grind (arith, tests)
 is_more : (n m : ℕ) → nat_lt n m ≡ false → m ≤ n
 is_more n m is = grind (arith, tests)
 
-signed_by : (n : ℕ) (b : Bool) → nat_lt n 32768 ≡ b → n < 65536 → is_value Int (cond b (pos n) (negsuc (65535 - n))) ≡ true
+pub signed_by : (n : ℕ) (b : Bool) → nat_lt n 32768 ≡ b → n < 65536 → is_value Int (cond b (pos n) (negsuc (65535 - n))) ≡ true
 signed_by n true is h = let g : n < 32768 = is_less n 32768 is in positive_fits n (omega arith)
 signed_by n false is h = let g : 32768 ≤ n = is_more n 32768 is in negative_fits (65535 - n) (omega arith)
 
-wrapped_below : (n : ℤ) → wrapped n < 65536
+pub wrapped_below : (n : ℤ) → wrapped n < 65536
 wrapped_below (pos n) = omega arith
 wrapped_below (negsuc n) = omega arith
 

@@ -12,3 +12,6 @@ pub mod Functions
 pub mod Steady
 pub mod FileScope
 pub mod Sources
+pub mod Structs
+pub mod Values
+pub mod Once

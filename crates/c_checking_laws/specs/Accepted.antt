@@ -1,5 +1,6 @@
 -- What the check accepts in a function is lawful in the program.
-use Rattle.std.specs.Prelude.{◌≡◌, ℕ, Bool, true, false, List, [], is_some, Option, None, Ok}
+use Rattle.std.specs.Prelude.{◌≡◌, ℕ, Bool, true, false, List, [], is_some, Option, None, Ok, ℤ, Some}
+use Rattle.base16.specs.declared.integer.IntType.{IntType}
 use Rattle.c_tree.specs.declared.qualified.Spec.{Spec}
 use Rattle.c_tree.specs.declared.declarations.Init.{Init}
 use Rattle.c_tree.specs.declared.declarations.Initial.{Initial}
@@ -8,7 +9,12 @@ use Rattle.c_tree.specs.declared.unit.Function.{Function as SourceFunction}
 use Rattle.core_tree.specs.declared.types.Ty.{Ty}
 use Rattle.core_tree.specs.declared.statements.Init.{Init as Store}
 use Rattle.core_tree.specs.declared.statements.Stmt.{Stmt}
+use Rattle.core_tree.specs.declared.expressions.Expr.{Expr}
+use Rattle.core_tree.specs.declared.types.Ty.TheVariants as ty
 use Rattle.core_tree.specs.declared.program.Core.{Core}
+use Rattle.core_tree.specs.Lawful.{Scope, IsExpr}
+use Rattle.core_tree.specs.Rules.{is_value}
+use Rattle.c_rules.specs.Constants.{value}
 use Rattle.core_tree.specs.Layout.{layout}
 use Rattle.core_tree.specs.LawfulCore.{Every, Text, struct_leaves, leaves_in, scalar_types, Initialised, IsDeclaration, IsStmt, AreStmts, IsFunction}
 use Rattle.c_typing.specs.declared.environment.Env.{Env}
@@ -57,3 +63,7 @@ FunctionIsLawful calls core env f h body all behind =
     Declared calls core env → env.locals ≡ [] → HeadIs core h
     → Every (λ (p : Parameter). is_some p.name ≡ true) h.params → compound_fits calls body false false ≡ true
     → compound body (entering h env) ≡ Ok (all, behind) → IsFunction core false (function_of f h all behind.locals)
+
+-- the value of a constant expression, as an initialiser has it
+abbrev pub ConstantIsValue : Scope → Expr → IntType → ℤ → Type 0
+ConstantIsValue s e t n = IsExpr s e (ty.Num t) → value e ≡ Some n → is_value t n ≡ true

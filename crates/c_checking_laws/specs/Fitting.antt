@@ -123,6 +123,13 @@ is_named p = is_some p.name
 abbrev pub is_known : List (List ℕ) → List ℕ → Bool
 is_known names name = is_one_of names name || is_some (builtin_named name)
 
+-- a struct has a member, and each declaration of members declares one
+abbrev pub has_declr : Member → Bool
+has_declr m = nat_le 1 (length m.declrs)
+
+abbrev pub struct_fits : Struct → Bool
+struct_fits s = nat_le 1 (length s.members) && each_is has_declr s.members
+
 module _ (calls : List ℕ → Bool) where
   abbrev pub body_fits : List Param → Option Compound → Bool
   body_fits ps None = true
@@ -130,13 +137,6 @@ module _ (calls : List ℕ → Bool) where
 
   abbrev pub function_fits : Function → Bool
   function_fits f = each_is param_fits (listed f.params) && body_fits (listed f.params) f.body
-
-  -- a struct has a member, and each declaration of members declares one
-  abbrev pub has_declr : Member → Bool
-  has_declr m = nat_le 1 (length m.declrs)
-
-  abbrev pub struct_fits : Struct → Bool
-  struct_fits s = nat_le 1 (length s.members) && each_is has_declr s.members
 
   abbrev pub external_fits : External → Bool
   external_fits (external.Struct defined inits) = struct_fits defined && inits_fit calls inits

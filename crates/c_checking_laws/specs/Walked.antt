@@ -2,9 +2,10 @@
 use Rattle.std.specs.Prelude.{◌≡◌, ℕ, true, false, List, [], ◌++◌, map, slice_get, is_some, Some, None, Ok}
 use Rattle.c_tree.specs.declared.unit.External.{External}
 use Rattle.c_tree.specs.declared.unit.Tree.{Tree}
+use Rattle.core_tree.specs.declared.types.Struct.{Struct}
 use Rattle.core_tree.specs.declared.program.Global.{Global}
 use Rattle.core_tree.specs.declared.program.Function.{Function}
-use Rattle.core_tree.specs.LawfulCore.{Every, IsFunction}
+use Rattle.core_tree.specs.LawfulCore.{Every, IsFunction, Apart, AreStructs, IsMain}
 use Rattle.c_typing.specs.declared.environment.Env.{Env}
 use Rattle.c_typing.specs.declared.environment.Named.{Named}
 use Rattle.c_typing.specs.declared.environment.Signature.{Signature}
@@ -17,9 +18,9 @@ use Rattle.c_checking.specs.Walk.{Walk}
 use Rattle.c_checking.specs.Externals.{in_turn}
 use Rattle.c_checking.specs.Functions.{place_from}
 use Rattle.c_checking.specs.Calls.{definitions}
-use Rattle.c_checking.specs.Checked.{external_step, at_start, walked, core_of}
+use Rattle.c_checking.specs.Checked.{external_step, at_start, walked, core_of, with_main}
 use Rattle.c_checking_laws.specs.Fitting.{is_known, tree_fits}
-use Rattle.c_checking_laws.specs.Standing.{Begins, Declared}
+use Rattle.c_checking_laws.specs.Standing.{Begins, Declared, IsLocal}
 
 -- ---- from one point of a function to a later one, whatever stands between
 
@@ -92,3 +93,15 @@ PointStands tree before after d last =
 abbrev pub FunctionsOfSource : Tree → Draft → Type 0
 FunctionsOfSource tree last =
     tree_fits tree ≡ true → walked tree ≡ Ok last → Every (IsFunction (core_of last) false) last.functions
+
+-- the structs of a source, each with a tag of its own, and its variables as objects
+abbrev pub StructsOfSource : Tree → Draft → Type 0
+StructsOfSource tree last =
+    tree_fits tree ≡ true → walked tree ≡ Ok last
+    → AreStructs (core_of last) 0 last.env.structs × Apart (map (λ (s : Struct). s.name) last.env.structs)
+    × Every (λ (g : Global). IsLocal (core_of last) g.ty) last.globals
+
+-- `int main(void)` is one of the functions
+abbrev pub MainIsThere : Draft → Draft → Type 0
+MainIsThere d last =
+    with_main d ≡ Ok last → (n : ℕ) × ((f : Function) × ((slice_get last.functions n ≡ Some f) × IsMain f))

@@ -1,4 +1,5 @@
-ghost use Rattle.std.specs.Prelude.{ℕ, Bool, List, Option};
+ghost use Rattle.std.specs.Prelude.{ℕ, Bool, List, Option, ℤ};
+ghost use Rattle.base16.specs.declared.integer.IntType.{IntType};
 ghost use Rattle.c_tree.specs.declared.qualified.Spec.{Spec};
 ghost use Rattle.c_tree.specs.declared.declarations.Init.{Init};
 ghost use Rattle.c_tree.specs.declared.declarations.Initial.{Initial};
@@ -10,14 +11,16 @@ ghost use Rattle.core_tree.specs.declared.types.Ty.{Ty};
 ghost use Rattle.core_tree.specs.declared.statements.Init.{Init as Store};
 ghost use Rattle.core_tree.specs.declared.statements.Stmt.{Stmt};
 ghost use Rattle.core_tree.specs.declared.program.Core.{Core};
+ghost use Rattle.core_tree.specs.declared.expressions.Expr.{Expr};
+ghost use Rattle.core_tree.specs.Lawful.{Scope};
 ghost use Rattle.core_tree.specs.LawfulCore.{Text};
 ghost use Rattle.c_typing.specs.declared.environment.Env.{Env};
 ghost use Rattle.c_checking.specs.declared.draft.Draft.{Draft};
 ghost use Rattle.c_checking.specs.Functions.{Head};
 ghost use Rattle.c_checking_laws.specs.Standing.{ExpressionsMayRest};
 ghost use Rattle.c_checking_laws.specs.Accepted.{ObjectIsWhole, StoresAreLawful, DeclaratorIsLawful, BlockIsLawful};
-ghost use Rattle.c_checking_laws.specs.Accepted.{HeadIsLawful, FunctionIsLawful};
-ghost use Rattle.c_checking_laws.specs.Walked.{PointStands, FunctionsOfSource};
+ghost use Rattle.c_checking_laws.specs.Accepted.{HeadIsLawful, FunctionIsLawful, ConstantIsValue};
+ghost use Rattle.c_checking_laws.specs.Walked.{PointStands, FunctionsOfSource, MainIsThere, StructsOfSource};
 
 /// Expressions of a function may rest on what is declared at their point of the text.
 pub fn expressions_may_rest()
@@ -69,4 +72,20 @@ pub fn points_stand()
 /// Each function of a source that breaks no rule is lawful in the program that the walk makes.
 pub fn functions_of_sources_are_lawful()
     ensures { (tree : Tree) → (last : Draft) → FunctionsOfSource tree last }
+{}
+
+/// The structs of a source that breaks no rule are lawful in the program that the walk makes, each with a tag of its own,
+/// and its variables are objects of at most 16,383 bytes.
+pub fn structs_of_sources_are_lawful()
+    ensures { (tree : Tree) → (last : Draft) → StructsOfSource tree last }
+{}
+
+/// The value of a lawful constant expression is a value of its type.
+pub fn constants_are_values()
+    ensures { (s : Scope) → (e : Expr) → (t : IntType) → (n : ℤ) → ConstantIsValue s e t n }
+{}
+
+/// `int main(void)` is one of the functions of what is accepted.
+pub fn main_is_there()
+    ensures { (d : Draft) → (last : Draft) → MainIsThere d last }
 {}
