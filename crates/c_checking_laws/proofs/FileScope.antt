@@ -52,11 +52,11 @@ either_get (z ∷ zs) y zero x is = inl is
 either_get (z ∷ zs) y (suc n) x is = either_get zs y n x is
 
 -- what stands at a place of a list of which one element is replaced
-abbrev Replaced : {A : Type 0} → List A → ℕ → A → ℕ → A → Type 0
+abbrev pub Replaced : {A : Type 0} → List A → ℕ → A → ℕ → A → Type 0
 Replaced {A = A} ys place s n x =
     (r : A) × (slice_get ys n ≡ Some r) × (((r ≡ s) × (n ≡ place)) ⊎ (r ≡ x))
 
-set_get : {A : Type 0} (xs : List A) (place : ℕ) (s : A) (n : ℕ) (x : A) → slice_get xs n ≡ Some x
+pub set_get : {A : Type 0} (xs : List A) (place : ℕ) (s : A) (n : ℕ) (x : A) → slice_get xs n ≡ Some x
     → Replaced (slice_set xs place s) place s n x
 set_get [] place s n x is = absurd (search rules)
 set_get (z ∷ zs) zero s zero x is = (s, refl, inl (refl, refl))
@@ -70,13 +70,13 @@ set_get (z ∷ zs) (suc place) s (suc n) x is = next (slice_set zs place s) plac
 
 -- ---- names
 
-set_there : {A : Type 0} (xs : List A) (place : ℕ) (s x : A) → slice_get xs place ≡ Some x
+pub set_there : {A : Type 0} (xs : List A) (place : ℕ) (s x : A) → slice_get xs place ≡ Some x
     → slice_get (slice_set xs place s) place ≡ Some s
 set_there [] place s x is = absurd (search rules)
 set_there (z ∷ zs) zero s x is = refl
 set_there (z ∷ zs) (suc place) s x is = set_there zs place s x is
 
-lookup_kept : (names : List Named) (d : Named) (name : List ℕ) (what : What) → lookup names name ≡ Some what
+pub lookup_kept : (names : List Named) (d : Named) (name : List ℕ) (what : What) → lookup names name ≡ Some what
     → lookup names d.name ≡ None → lookup (names ++ d ∷ []) name ≡ Some what
 lookup_kept names d name what is new = lookup-last names d name ∙ by (bytes_eq d.name name) refl
   where
@@ -86,7 +86,7 @@ lookup_kept names d name what is new = lookup-last names d name ∙ by (bytes_eq
         let f : ◌≡◌ {A = Option What} None (Some what) = sym new ∙ ap (lookup names) e ∙ is in absurd cc
     by false at_b = is
 
-lookup_new : (names : List Named) (d : Named) → lookup (names ++ d ∷ []) d.name ≡ Some d.what
+pub lookup_new : (names : List Named) (d : Named) → lookup (names ++ d ∷ []) d.name ≡ Some d.what
 lookup_new names d = lookup-last names d d.name ∙ by (bytes_eq d.name d.name) ((bytes_eq-Decides d.name d.name).1 refl)
   where
     by : (b : Bool) → b ≡ true → cond b (Some d.what) (lookup names d.name) ≡ Some d.what

@@ -15,3 +15,4 @@ pub mod Sources
 pub mod Structs
 pub mod Values
 pub mod Once
+pub mod Names

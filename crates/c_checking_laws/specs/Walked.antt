@@ -5,7 +5,7 @@ use Rattle.c_tree.specs.declared.unit.Tree.{Tree}
 use Rattle.core_tree.specs.declared.types.Struct.{Struct}
 use Rattle.core_tree.specs.declared.program.Global.{Global}
 use Rattle.core_tree.specs.declared.program.Function.{Function}
-use Rattle.core_tree.specs.LawfulCore.{Every, IsFunction, Apart, AreStructs, IsMain}
+use Rattle.core_tree.specs.LawfulCore.{Every, IsFunction, Apart, AreStructs, IsMain, file_names}
 use Rattle.c_typing.specs.declared.environment.Env.{Env}
 use Rattle.c_typing.specs.declared.environment.Named.{Named}
 use Rattle.c_typing.specs.declared.environment.Signature.{Signature}
@@ -105,3 +105,7 @@ StructsOfSource tree last =
 abbrev pub MainIsThere : Draft → Draft → Type 0
 MainIsThere d last =
     with_main d ≡ Ok last → (n : ℕ) × ((f : Function) × ((slice_get last.functions n ≡ Some f) × IsMain f))
+
+-- the names at file scope stand once each
+abbrev pub NamesOfSource : Tree → Draft → Type 0
+NamesOfSource tree last = walked tree ≡ Ok last → Apart (file_names (core_of last))

@@ -20,7 +20,7 @@ ghost use Rattle.c_checking.specs.Functions.{Head};
 ghost use Rattle.c_checking_laws.specs.Standing.{ExpressionsMayRest};
 ghost use Rattle.c_checking_laws.specs.Accepted.{ObjectIsWhole, StoresAreLawful, DeclaratorIsLawful, BlockIsLawful};
 ghost use Rattle.c_checking_laws.specs.Accepted.{HeadIsLawful, FunctionIsLawful, ConstantIsValue};
-ghost use Rattle.c_checking_laws.specs.Walked.{PointStands, FunctionsOfSource, MainIsThere, StructsOfSource};
+ghost use Rattle.c_checking_laws.specs.Walked.{PointStands, FunctionsOfSource, MainIsThere, NamesOfSource, StructsOfSource};
 
 /// Expressions of a function may rest on what is declared at their point of the text.
 pub fn expressions_may_rest()
@@ -88,4 +88,9 @@ pub fn constants_are_values()
 /// `int main(void)` is one of the functions of what is accepted.
 pub fn main_is_there()
     ensures { (d : Draft) → (last : Draft) → MainIsThere d last }
+{}
+
+/// The names of variables and functions of a source that breaks no rule stand once each, and are none that the language has.
+pub fn names_stand_once()
+    ensures { (tree : Tree) → (last : Draft) → NamesOfSource tree last }
 {}

@@ -6,5 +6,6 @@ mod laws;
 pub use laws::{
     blocks_are_lawful, constants_are_values, declarators_are_lawful, expressions_may_rest,
     functions_are_lawful, functions_of_sources_are_lawful, heads_are_lawful, main_is_there,
-    objects_are_whole, points_stand, stores_are_lawful, structs_of_sources_are_lawful,
+    names_stand_once, objects_are_whole, points_stand, stores_are_lawful,
+    structs_of_sources_are_lawful,
 };
