@@ -5,3 +5,4 @@ pub mod RunLaws
 pub mod CommandLaws
 pub mod PrintLaws
 pub mod OutcomeLaws
+pub mod HeldLaws

@@ -1,6 +1,6 @@
 -- What a text that is put comes to.
-use Rattle.std.proofs.Common.{◌≡◌, ℕ, inl, inr, List, Option, Some, Result, Ok, Err, refl, sym, subst}
-use Rattle.std.specs.Prelude.{OnOk, OnErr, IsErrOf, IsSomeAnd}
+use Rattle.std.proofs.Common.{◌≡◌, ℕ, inl, inr, List, Result, Ok, Err, refl}
+use Rattle.std.specs.Prelude.{OnOk, OnErr, IsErrOf}
 use Rattle.edge.specs.Counts.{HasRisen}
 use Rattle.edge.specs.Told.{Appends, AppendsFront}
 use Rattle.edge.specs.declared.sink.SinkErr.{SinkErr}
@@ -32,8 +32,3 @@ said_lines seen text outcome (Err Failed) cause book whole ok failed front =
     record { risen = failed refl; front = record { text = text; cause = cause; front = front }; book = book }
 said_lines seen text outcome (Err SinkNoMemory) cause book whole ok failed front =
     record { front = inr (record { text = text; cause = cause; front = front }); book = book }
-
--- ---- a command that is known
-pub at_command : (command : Option (List ℕ × List ℕ)) (c : List ℕ × List ℕ) (P : List ℕ × List ℕ → Type 0) → command ≡ Some c
-    → P c → IsSomeAnd command P
-at_command command c P e p = subst (λ (o : Option (List ℕ × List ℕ)). IsSomeAnd o P) (sym e) p

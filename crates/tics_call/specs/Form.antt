@@ -1,5 +1,5 @@
 -- Programs that store constants, and the trees and sources that are such programs.
-use Rattle.std.specs.Prelude.{◌≡◌, ℕ, ◌<◌, ◌≤◌, List, [], ◌∷◌, ◌++◌, length, Bool, true, false, not, ◌&&◌, nat_le, codes, IsTrue, Some, None}
+use Rattle.std.specs.Prelude.{◌≡◌, ℕ, ◌<◌, ◌≤◌, ◌⊎◌, List, [], ◌∷◌, ◌++◌, length, Bool, true, false, not, ◌&&◌, nat_le, codes, IsTrue, Some, None}
 use Rattle.std.specs.List.{list_any, list_all}
 use Rattle.std.specs.Str.{bytes_eq}
 use Rattle.c_tree.specs.declared.qualified.Spec.{Spec}
@@ -17,9 +17,10 @@ use Rattle.c_tree.specs.declared.unit.Params.TheVariants as params
 use Rattle.c_tree.specs.declared.unit.External.{External}
 use Rattle.c_tree.specs.declared.unit.External.TheVariants as external
 use Rattle.c_tree.specs.declared.unit.Tree.{Tree}
+use Rattle.core_tree.specs.declared.program.Typed.{Typed}
 use Rattle.tics_call.specs.declared.source.Program.{Program}
 use Rattle.tics_call.specs.declared.source.Store.{Store}
-use Rattle.tics_call.specs.Source.{IsRead}
+use Rattle.tics_front.specs.Source.{IsTyped, IsAnnotated}
 
 -- ---- programs
 
@@ -127,14 +128,20 @@ pub record IsTreeOf (program : Program) (tree : Tree) : Type 0 where
 
 -- ---- sources
 
--- The text has a tree that is this program.
+-- The text is this program: by the rules of the language, and of the form that is run so far.
 pub record IsOfForm (text : List ℕ) (program : Program) : Type 0 where
   pub tree : Tree
-  pub read : IsRead text tree
+  pub typed : Typed
+  pub source : IsTyped text tree typed
   pub is : IsTreeOf program tree
 
--- The text has a tree that is no program.
-pub record IsOther (text : List ℕ) : Type 0 where
+-- The text is a program by the rules of the language, and none of the form that is run so far.
+pub record IsOutOfForm (text : List ℕ) : Type 0 where
   pub tree : Tree
-  pub read : IsRead text tree
+  pub typed : Typed
+  pub source : IsTyped text tree typed
   pub is_none : (program : Program) → IsProgram program → IsTreeOf program tree → ⊥
+
+-- The text has annotations, or it is a program that is not run so far.
+abbrev pub IsOther : List ℕ → Type 0
+IsOther text = IsAnnotated text ⊎ IsOutOfForm text

@@ -1,5 +1,4 @@
 pub mod Form
-pub mod Source
 pub mod Run
 pub mod Command
 pub mod Outcome

@@ -1,18 +1,24 @@
 -- What a call of the program comes to.
-use Rattle.std.specs.Prelude.{◌≡◌, ◌≢◌, ℕ, ◌⊎◌, List, [], ◌∷◌, ◌++◌, Option, Some, None, IsSomeAnd, MatchOption, Result, Ok, Err, codes}
+use Rattle.std.specs.Prelude.{◌≡◌, ◌≢◌, ℕ, ◌⊎◌, List, [], ◌∷◌, ◌++◌, Option, Some, None, Result, Ok, Err, codes}
 use Rattle.edge.specs.Counts.{HasRisen}
 use Rattle.edge.specs.Told.{Drive, Appends, AppendsFront}
 use Rattle.edge.specs.declared.sink.SinkErr.{SinkErr}
 use Rattle.edge.specs.declared.sink.SinkErr.TheVariants.{Failed, NoMemory as SinkNoMemory}
+use Rattle.base16.specs.declared.reading.Reading.{Reading}
 use Rattle.world.specs.declared.history.Record.{Record}
+use Rattle.core_tree.specs.declared.program.Typed.{Typed}
 use Rattle.tics_call.specs.declared.outcome.Outcome.{Outcome}
-use Rattle.tics_call.specs.declared.outcome.Outcome.TheVariants.{Done, Refused, Usage, ReadFault, WriteFault, NoMemory, Unsupported}
-use Rattle.tics_call.specs.declared.fault.SourceFault.{SourceFault}
+use Rattle.tics_call.specs.declared.outcome.Outcome.TheVariants.{Done, Told, Refused, Usage, ReadingsRefused, ReadFault, WriteFault, NoMemory, Unsupported}
+use Rattle.tics_front.specs.declared.fault.SourceFault.{SourceFault}
 use Rattle.tics_call.specs.declared.source.Program.{Program}
 use Rattle.tics_call.specs.Form.{IsProgram, IsOfForm, IsOther}
 use Rattle.report.specs.Report.{report}
 use Rattle.tics_call.specs.Run.{history_of, symbols_of}
-use Rattle.tics_call.specs.Source.{IsRefused, refusal_text}
+use Rattle.tics_front.specs.Held.{HoldsAt}
+use Rattle.tics_front.specs.Source.{refusal_text}
+use Rattle.tics_meaning.specs.declared.fault.ReadingsFault.{ReadingsFault}
+use Rattle.tics_meaning.specs.Meant.{Refuses, IsAsked, RefusesReadings, HasNoMeaning, NamesMeaningRead, readings_text, meaning_text}
+use Rattle.tics_call.specs.Command.{Order, IsRunOf, IsMeaningOf, IsEitherOf}
 
 -- ---- the texts
 abbrev pub usage_text : List ℕ
@@ -32,41 +38,50 @@ plain_trace = codes "tics-trace 1" ++ 10 ∷ (codes "rate 4000000" ++ 10 ∷
 abbrev pub report_of : Program → List ℕ
 report_of program = report (symbols_of program).scalars (history_of program)
 
--- ---- the files
--- Where files are told, this one is there and P holds of it.
-abbrev pub HoldsAt : Option Drive → List ℕ → (List ℕ → Type 0) → Type 0
-HoldsAt files name P = MatchOption files (Unit {0}) (λ drive. IsSomeAnd (drive name) P)
-
+-- ---- the files of a run: the names are those of the source and of the trace
 -- The source is this program, and the trace is the plain one.
-pub record Accepts (files : Option Drive) (command : List ℕ × List ℕ) (program : Program) : Type 0 where
+pub record Accepts (files : Option Drive) (names : List ℕ × List ℕ) (program : Program) : Type 0 where
   pub program_is : IsProgram program
-  pub source : HoldsAt files command.0 (λ text. IsOfForm text program)
-  pub trace : HoldsAt files command.1 (λ text. text ≡ plain_trace)
+  pub source : HoldsAt files names.0 (λ text. IsOfForm text program)
+  pub trace : HoldsAt files names.1 (λ text. text ≡ plain_trace)
 
--- The source is refused for this reason.
-abbrev pub Refuses : Option Drive → List ℕ × List ℕ → SourceFault → Type 0
-Refuses files command reason = HoldsAt files command.0 (λ text. IsRefused text reason)
-
--- The source has a tree that is no program, or it is a program and the trace is not the plain one.
+-- The source has annotations or is a program that is not run so far, or it is a program and the trace is not the plain one.
 abbrev pub IsUnsupported : Option Drive → List ℕ × List ℕ → Type 0
-IsUnsupported files command =
-    HoldsAt files command.0 IsOther
-    ⊎ ((program : Program) × HoldsAt files command.0 (λ text. IsOfForm text program) × HoldsAt files command.1
+IsUnsupported files names =
+    HoldsAt files names.0 IsOther
+    ⊎ ((program : Program) × HoldsAt files names.0 (λ text. IsOfForm text program) × HoldsAt files names.1
     (λ text. text ≢ plain_trace))
 
 -- The read that failed is that of the source, or that of the trace of a source that is a program.
 abbrev pub NamesRead : Option Drive → List ℕ × List ℕ → Option (List ℕ) → Type 0
-NamesRead files command last =
-    (last ≡ Some command.0)
-    ⊎ ((last ≡ Some command.1) × (program : Program) × IsProgram program × HoldsAt files command.0
+NamesRead files names last =
+    (last ≡ Some names.0)
+    ⊎ ((last ≡ Some names.1) × (program : Program) × IsProgram program × HoldsAt files names.0
     (λ text. IsOfForm text program))
+
+-- ---- either command
+-- The source is refused for this reason.
+abbrev pub RefusesSource : Option Drive → Option Order → SourceFault → Type 0
+RefusesSource files command reason = IsEitherOf command (λ c. Refuses files c reason) (λ c. Refuses files c reason)
+
+-- The readings of a meaning are refused for this reason.
+abbrev pub RefusesItsReadings : Option Drive → Option Order → ReadingsFault → Type 0
+RefusesItsReadings files command reason = IsMeaningOf command (λ c. RefusesReadings files c reason)
+
+-- The read that failed is one that the command makes.
+abbrev pub NamesItsRead : Option Drive → Option Order → Option (List ℕ) → Type 0
+NamesItsRead files command last = IsEitherOf command (λ c. NamesRead files c last) (λ c. NamesMeaningRead files c last)
+
+-- What the command asks for is not built yet.
+abbrev pub IsNotBuilt : Option Drive → Option Order → Type 0
+IsNotBuilt files command = IsEitherOf command (λ c. IsUnsupported files c) (λ c. HasNoMeaning files c)
 
 -- ---- a call
 -- What is seen of a call: the files and the command line before it, the counts of faults and the bytes put before and
 -- after it, the name of the last read that failed, and the records of the book.
 pub record Seen : Type 0 where
   pub files : Option Drive
-  pub command : Option (List ℕ × List ℕ)
+  pub command : Option Order
   pub faults : ℕ
   pub faults_after : ℕ
   pub last : Option (List ℕ)
@@ -79,7 +94,7 @@ pub record Seen : Type 0 where
 
 -- a call as it is seen by what files and sinks tell of themselves
 abbrev pub seen_by : {F K : Type 0} → (F → Option Drive) → (F → ℕ) → (F → Option (List ℕ)) → (K → Option (List ℕ)) → (K → ℕ)
-    → Option (List ℕ × List ℕ) → F → F → K → K → List Record → List Record → Seen
+    → Option Order → F → F → K → K → List Record → List Record → Seen
 seen_by contents faults last bytes put_faults command files files_after out out_after records records_after = record {
   files = contents files;
   command = command;
@@ -95,24 +110,32 @@ seen_by contents faults last bytes put_faults command files files_after out out_
 }
 
 -- an accepted program was run
-pub record HasRun (files : Option Drive) (command : Option (List ℕ × List ℕ)) (records : List Record)
+pub record HasRun (files : Option Drive) (command : Option Order) (records : List Record)
     (program : Program) : Type 0 where
-  pub accepted : IsSomeAnd command (λ c. Accepts files c program)
+  pub accepted : IsRunOf command (λ c. Accepts files c program)
   pub history : records ≡ history_of program
 
+-- a meaning was asked for, of a program and readings
+abbrev pub AsksMeaning : Option Drive → Option Order → Typed → List Reading → Type 0
+AsksMeaning files command typed readings = IsMeaningOf command (λ c. IsAsked files c typed readings)
+
 -- the texts that a call may have begun to print, each with its cause
-pub data IsText (files : Option Drive) (command : Option (List ℕ × List ℕ)) (faults faults_after : ℕ)
+pub data IsText (files : Option Drive) (command : Option Order) (faults faults_after : ℕ)
     (records : List Record) : List ℕ → Type 0 where
-  refused : (reason : SourceFault) → IsSomeAnd command (λ c. Refuses files c reason)
+  refused : (reason : SourceFault) → RefusesSource files command reason
       → IsText files command faults faults_after records (refusal_text reason)
   usage : command ≡ None → IsText files command faults faults_after records usage_text
   fault : HasRisen faults faults_after → IsText files command faults faults_after records fault_text
-  unsupported : IsSomeAnd command (λ c. IsUnsupported files c) → IsText files command faults faults_after records unsupported_text
+  readings : (reason : ReadingsFault) → RefusesItsReadings files command reason
+      → IsText files command faults faults_after records (readings_text reason)
+  unsupported : IsNotBuilt files command → IsText files command faults faults_after records unsupported_text
   printed : (program : Program) → HasRun files command records program
       → IsText files command faults faults_after records (report_of program)
+  told : (typed : Typed) (readings : List Reading) → AsksMeaning files command typed readings
+      → IsText files command faults faults_after records (meaning_text typed readings)
 
 -- a front of a text that has one of these causes
-pub record IsFrontOfText (files : Option Drive) (command : Option (List ℕ × List ℕ)) (faults faults_after : ℕ)
+pub record IsFrontOfText (files : Option Drive) (command : Option Order) (faults faults_after : ℕ)
     (records : List Record) (bytes bytes_after : Option (List ℕ)) : Type 0 where
   pub text : List ℕ
   pub cause : IsText files command faults faults_after records text
@@ -133,8 +156,15 @@ pub record IsDone (seen : Seen) : Type 0 where
   pub run : HasRun seen.files seen.command seen.records_after program
   pub printed : Appends seen.bytes seen.bytes_after (report_of program)
 
+pub record IsTold (seen : Seen) : Type 0 where
+  pub typed : Typed
+  pub readings : List Reading
+  pub asked : AsksMeaning seen.files seen.command typed readings
+  pub printed : Appends seen.bytes seen.bytes_after (meaning_text typed readings)
+  pub book : seen.records_after ≡ seen.records
+
 pub record IsSourceRefused (seen : Seen) (reason : SourceFault) : Type 0 where
-  pub cause : IsSomeAnd seen.command (λ c. Refuses seen.files c reason)
+  pub cause : RefusesSource seen.files seen.command reason
   pub text : Appends seen.bytes seen.bytes_after (refusal_text reason)
   pub book : seen.records_after ≡ seen.records
 
@@ -143,9 +173,14 @@ pub record IsUsage (seen : Seen) : Type 0 where
   pub text : Appends seen.bytes seen.bytes_after usage_text
   pub book : seen.records_after ≡ seen.records
 
+pub record AreReadingsRefused (seen : Seen) (reason : ReadingsFault) : Type 0 where
+  pub cause : RefusesItsReadings seen.files seen.command reason
+  pub text : Appends seen.bytes seen.bytes_after (readings_text reason)
+  pub book : seen.records_after ≡ seen.records
+
 pub record IsReadFault (seen : Seen) : Type 0 where
   pub risen : HasRisen seen.faults seen.faults_after
-  pub named : IsSomeAnd seen.command (λ c. NamesRead seen.files c seen.last)
+  pub named : NamesItsRead seen.files seen.command seen.last
   pub text : Appends seen.bytes seen.bytes_after fault_text
   pub book : seen.records_after ≡ seen.records
 
@@ -159,15 +194,17 @@ pub record IsNoMemory (seen : Seen) : Type 0 where
   pub book : IsBook seen
 
 pub record IsNotSupported (seen : Seen) : Type 0 where
-  pub cause : IsSomeAnd seen.command (λ c. IsUnsupported seen.files c)
+  pub cause : IsNotBuilt seen.files seen.command
   pub text : Appends seen.bytes seen.bytes_after unsupported_text
   pub book : seen.records_after ≡ seen.records
 
 -- what the call comes to
 abbrev pub ComesTo : Seen → Outcome → Type 0
 ComesTo seen Done = IsDone seen
+ComesTo seen Told = IsTold seen
 ComesTo seen (Refused reason) = IsSourceRefused seen reason
 ComesTo seen Usage = IsUsage seen
+ComesTo seen (ReadingsRefused reason) = AreReadingsRefused seen reason
 ComesTo seen ReadFault = IsReadFault seen
 ComesTo seen WriteFault = IsWriteFault seen
 ComesTo seen NoMemory = IsNoMemory seen
@@ -181,8 +218,10 @@ said (Err SinkNoMemory) outcome = NoMemory
 
 abbrev pub status_of : Outcome → ℕ
 status_of Done = 0
+status_of Told = 0
 status_of (Refused reason) = 1
 status_of Usage = 2
+status_of (ReadingsRefused reason) = 3
 status_of ReadFault = 8
 status_of WriteFault = 9
 status_of NoMemory = 10
@@ -190,4 +229,13 @@ status_of Unsupported = 13
 
 -- one of the statuses that a call may end with
 abbrev pub IsStatus : ℕ → Type 0
-IsStatus n = (n ≡ 0) ⊎ (n ≡ 1) ⊎ (n ≡ 2) ⊎ (n ≡ 8) ⊎ (n ≡ 9) ⊎ (n ≡ 10) ⊎ (n ≡ 13)
+IsStatus n = (n ≡ 0) ⊎ (n ≡ 1) ⊎ (n ≡ 2) ⊎ (n ≡ 3) ⊎ (n ≡ 8) ⊎ (n ≡ 9) ⊎ (n ≡ 10) ⊎ (n ≡ 13)
+
+-- what status 0 says: of a run, that an accepted program was run, that its history is the book, and that what was put is the
+-- report of that; of a meaning, that the source is a program and the other file readings, that what was put is their meaning,
+-- and that the book is empty
+abbrev pub HasDone : Option Drive → Option Order → List Record → Option (List ℕ) → Option (List ℕ) → Type 0
+HasDone files command records bytes bytes_after =
+    ((program : Program) × HasRun files command records program × Appends bytes bytes_after (report_of program))
+    ⊎ ((typed : Typed) × (readings : List Reading) × AsksMeaning files command typed readings
+    × Appends bytes bytes_after (meaning_text typed readings) × (records ≡ []))

@@ -1,19 +1,17 @@
 ghost use Rattle.std.specs.Prelude.{◌≡◌, ◌≢◌, ◌≤◌, ◌⊎◌, Some, IfOk, OnOk, IsErrOf};
 ghost use Rattle.edge.specs.Counts.{HasRisen};
-ghost use Rattle.tics_call.specs.declared.fault.SourceFault.{SourceFault as ASourceFault};
+ghost use Rattle.tics_front.specs.declared.fault.SourceFault.{SourceFault as ASourceFault};
+ghost use Rattle.tics_front.specs.Held.{HoldsAt};
+ghost use Rattle.tics_front.specs.Source.{IsRefused};
+ghost use Rattle.tics_meaning.specs.Meant.{Refuses};
 ghost use Rattle.tics_call.specs.Form.{IsProgram, IsOfForm, IsOther};
-ghost use Rattle.tics_call.specs.Outcome.{HoldsAt, Accepts, Refuses, IsUnsupported, NamesRead, plain_trace};
-ghost use Rattle.tics_call.specs.Source.{IsRefused};
+ghost use Rattle.tics_call.specs.Outcome.{Accepts, IsUnsupported, NamesRead, plain_trace};
 
-use crate::fault::SourceFault;
-use crate::form::program_in;
-use crate::front::FrontErr;
+use crate::form::program_of;
 use crate::source::Program;
 use edge::{FileErr, Files};
 use std::alloc::Global;
-
-/// Most bytes of a source.
-const SOURCE_LIMIT: u32 = 262_144;
+use tics_front::{ReadErr, SourceFault, read_source};
 
 /// Most bytes of a trace.
 const TRACE_LIMIT: u32 = 1_048_576;
@@ -34,7 +32,8 @@ pub enum Refusal {
 }
 
 /// The program of a source file.
-fn read_source<F: Files>(alloc: Global, files: &mut F, name: &str) -> Result<Program, Refusal>
+#[tactic(auto, using(crate::proofs::HeldLaws::held_form, crate::proofs::HeldLaws::held_other, crate::proofs::HeldLaws::held_annotated))]
+fn read_program<F: Files>(alloc: Global, files: &mut F, name: &str) -> Result<Program, Refusal>
     ensures form { IfOk result (λ program. IsProgram program) }
     ensures told { IfOk result (λ program. HoldsAt (F.contents files.old) name.now (λ text. IsOfForm text program)) }
     ensures refused { (fault : ASourceFault) → IsErrOf result (Refusal.Source fault)
@@ -45,17 +44,17 @@ fn read_source<F: Files>(alloc: Global, files: &mut F, name: &str) -> Result<Pro
     ensures never_falls { F.faults files.old ≤ F.faults files.new }
     ensures files { F.contents files.new ≡ F.contents files.old }
 {
-    let text = match files.read(alloc, name, SOURCE_LIMIT) {
-        Ok(text) => text,
-        Err(FileErr::Failed) => return Err(Refusal::ReadFault),
-        Err(FileErr::TooBig) => return Err(Refusal::Source(SourceFault::TooBig)),
-        Err(FileErr::NoMemory) => return Err(Refusal::NoMemory),
+    let source = match read_source(alloc, files, name) {
+        Ok(source) => source,
+        Err(ReadErr::Fault) => return Err(Refusal::ReadFault),
+        Err(ReadErr::Refused(fault)) => return Err(Refusal::Source(fault)),
+        Err(ReadErr::Annotated) => return Err(Refusal::Unsupported),
+        Err(ReadErr::NoMemory) => return Err(Refusal::NoMemory),
     };
-    match program_in(alloc, text.as_slice()) {
+    match program_of(alloc, source.tree.get()) {
         Ok(Some(program)) => Ok(program),
         Ok(None) => Err(Refusal::Unsupported),
-        Err(FrontErr::Refused(fault)) => Err(Refusal::Source(fault)),
-        Err(FrontErr::NoMemory) => Err(Refusal::NoMemory),
+        Err(_) => Err(Refusal::NoMemory),
     }
 }
 
@@ -100,7 +99,7 @@ pub fn accept<F: Files>(
     ensures never_falls { F.faults files.old ≤ F.faults files.new }
     ensures files { F.contents files.new ≡ F.contents files.old }
 {
-    let program = match read_source(alloc, files, source) {
+    let program = match read_program(alloc, files, source) {
         Ok(program) => program,
         Err(refusal) => return Err(refusal),
     };

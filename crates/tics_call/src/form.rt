@@ -1,15 +1,12 @@
 //! From the tree of a source to its program.
 
-ghost use Rattle.std.specs.Prelude.{◌≡◌, ◌≤◌, ◌++◌, ◌∷◌, [], ℕ, List, Some, None, length, not, nat_le, IfOk, IfSome, IsErrOf, MatchOption, ◌&&◌, true};
+ghost use Rattle.std.specs.Prelude.{◌≡◌, ◌++◌, ◌∷◌, [], ℕ, List, Some, None, length, not, nat_le, IfOk, MatchOption, ◌&&◌, true};
 ghost use Rattle.std.specs.List.{list_all, list_any};
 ghost use Rattle.std.specs.Str.{bytes_eq};
-ghost use Rattle.tics_call.specs.declared.fault.SourceFault.{SourceFault as ASourceFault};
 ghost use Rattle.tics_call.specs.declared.source.Program.{Program as AProgram};
 ghost use Rattle.tics_call.specs.declared.source.Store.{Store as AStore};
-ghost use Rattle.tics_call.specs.Form.{is_function, is_free, are_distinct, is_store_to, IsProgram, IsDeclaration, IsStore, Pairs, IsTreeOf, IsOfForm, IsOther};
-ghost use Rattle.tics_call.specs.Source.{IsRead, IsRefused, most_bytes};
+ghost use Rattle.tics_call.specs.Form.{is_function, is_free, are_distinct, is_store_to, IsProgram, IsDeclaration, IsStore, Pairs, IsTreeOf};
 
-use crate::front::{FrontErr, tree_of};
 use crate::parts::{declared_name, is_return, main_parts, store_of};
 use crate::source::{Program, Store};
 use base16::{Name, NoMemory, Sequence};
@@ -143,8 +140,9 @@ fn outline(alloc: Global, tree: &Tree) -> Result<Option<Program>, NoMemory>
     }))
 }
 
-/// The program that a tree is.
-fn program_of(alloc: Global, tree: &Tree) -> Result<Option<Program>, NoMemory>
+/// The program that a tree is, where it is one: at most 100 declarations `int NAME;`, then `int main(void){`, at most 200
+/// stores `NAME=NUMBER;`, and `return 0;}`.
+pub fn program_of(alloc: Global, tree: &Tree) -> Result<Option<Program>, NoMemory>
     ensures { IfOk result (λ found. MatchOption found
         ((program : AProgram) → IsProgram program → IsTreeOf program tree.now → ⊥)
         (λ program. IsProgram program × IsTreeOf program tree.now)) }
@@ -156,22 +154,4 @@ fn program_of(alloc: Global, tree: &Tree) -> Result<Option<Program>, NoMemory>
         return Ok(None);
     }
     Ok(Some(program))
-}
-
-/// The program of a source of at most 262,144 bytes, where its tree is one: at most 100 declarations `int NAME;`, then
-/// `int main(void){`, at most 200 stores `NAME=NUMBER;`, and `return 0;}`.
-pub fn program_in(alloc: Global, source: &[u8]) -> Result<Option<Program>, FrontErr>
-    requires { length source.now ≤ most_bytes }
-    ensures form { IfOk result (λ found. IfSome found (λ program. IsProgram program)) }
-    ensures found { IfOk result (λ found. MatchOption found (IsOther source.now) (λ program. IsOfForm source.now program)) }
-    ensures refused { (fault : ASourceFault) → IsErrOf result (FrontErr.Refused fault) → IsRefused source.now fault }
-{
-    let tree = match tree_of(alloc, source) {
-        Ok(tree) => tree,
-        Err(error) => return Err(error),
-    };
-    match program_of(alloc, &tree) {
-        Ok(found) => Ok(found),
-        Err(_) => Err(FrontErr::NoMemory),
-    }
 }

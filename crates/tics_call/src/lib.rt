@@ -3,9 +3,7 @@
 
 mod accept;
 mod command;
-mod fault;
 mod form;
-mod front;
 mod meaning;
 mod outcome;
 mod parts;

@@ -1,8 +1,9 @@
 ghost use Rattle.std.specs.Prelude.{◌≡◌};
 ghost use Rattle.tics_call.specs.Outcome.{said, status_of};
 
-use crate::fault::SourceFault;
 use edge::SinkErr;
+use tics_front::SourceFault;
+use tics_meaning::ReadingsFault;
 
 /// The exit status for want of memory.
 pub const NO_MEMORY: u8 = 10;
@@ -12,10 +13,14 @@ pub const NO_MEMORY: u8 = 10;
 pub enum Outcome {
     /// The program ran to its end, and its report was printed.
     Done,
+    /// What the program means was printed.
+    Told,
     /// The source has this fault.
     Refused(SourceFault),
     /// The words are no command.
     Usage,
+    /// The readings have this fault.
+    ReadingsRefused(ReadingsFault),
     /// A read answered a fault.
     ReadFault,
     /// A put answered a fault.
@@ -31,9 +36,10 @@ impl Outcome {
         ensures { result ≡ status_of self }
     {
         match self {
-            Outcome::Done => 0,
+            Outcome::Done | Outcome::Told => 0,
             Outcome::Refused(_) => 1,
             Outcome::Usage => 2,
+            Outcome::ReadingsRefused(_) => 3,
             Outcome::ReadFault => 8,
             Outcome::WriteFault => 9,
             Outcome::NoMemory => NO_MEMORY,

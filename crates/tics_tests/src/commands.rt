@@ -1,10 +1,7 @@
-use edge::{Files, MemFiles, MemSink, Sink};
-use fram::Fram;
+use crate::calls::{call, repeated};
 use std::alloc::Global;
 use std::process::Abort;
 use std::test::Fail;
-use tics_call::tics;
-use world::History;
 
 const STORE: &str = "int g; int main(void){g=5;return 0;}";
 
@@ -12,45 +9,6 @@ const PLAIN: &str = "tics-trace 1\nrate 4000000\nperiod 4000000\ncycle 100000 0\
 
 const DONE: &str =
     "on 1\ncommit 1 marks 3 instrs 0 pc 0000 sp 0000 words 0 log 0\nset g 5\nend done\n";
-
-/// What was seen of a call of the program.
-#[derive(Drop)]
-struct Observed {
-    status: u8,
-    printed: Vec<u8>,
-    records: usize,
-    read_faults: u64,
-    put_faults: u64,
-}
-
-/// Calls the program with a source `c` and a trace `t` in memory; the reads and puts of these numbers fail.
-fn call(
-    alloc: Global,
-    words: &[&str],
-    source: &str,
-    trace: &str,
-    read_fails: &[u64],
-    put_fails: &[u64],
-) -> Result<Observed, Fail> {
-    let mut list = Vec::new(alloc);
-    for word in words {
-        list.push(String::from_str(alloc, word)?)?;
-    }
-    let mut files = MemFiles::new(alloc, Vec::from_slice(alloc, read_fails)?);
-    files.place(alloc, "c", source.as_bytes())?;
-    files.place(alloc, "t", trace.as_bytes())?;
-    let mut out = MemSink::new(alloc, Vec::from_slice(alloc, put_fails)?);
-    let mut fram = Fram::blank(alloc)?;
-    let mut book = History::new(alloc);
-    let status = tics(alloc, &list, &mut files, &mut out, &mut fram, &mut book);
-    Ok(Observed {
-        status,
-        printed: Vec::from_slice(alloc, out.bytes())?,
-        records: book.records.len(),
-        read_faults: files.faults(),
-        put_faults: out.faults(),
-    })
-}
 
 /// Checks what `run c t` answers and prints under the plain trace.
 fn expect_run(
@@ -129,22 +87,6 @@ fn a_refused_source_is_named_with_its_line(rt: HostRuntime) -> Result<(), Fail> 
     Ok(())
 }
 
-/// A text, this piece so many times, and a text.
-fn repeated(
-    alloc: Global,
-    front: &str,
-    piece: &str,
-    count: usize,
-    back: &str,
-) -> Result<String, Fail> {
-    let mut text = String::from_str(alloc, front)?;
-    for _ in 0..count {
-        text.push_str(piece)?;
-    }
-    text.push_str(back)?;
-    Ok(text)
-}
-
 #[test]
 fn a_source_has_at_most_262144_bytes(rt: HostRuntime) -> Result<(), Fail> {
     let alloc = rt.alloc();
@@ -183,18 +125,95 @@ fn a_front_of_a_source_is_refused_or_unsupported(rt: HostRuntime) -> Result<(), 
 }
 
 #[test]
-fn a_tree_of_another_form_is_unsupported(rt: HostRuntime) -> Result<(), Fail> {
+fn a_source_that_breaks_a_rule_is_named_with_its_line(rt: HostRuntime) -> Result<(), Fail> {
+    for (source, text) in [
+        ("int main(void){return x;}", "source E1 line 1\n"),
+        ("int main(void){\nreturn x;}", "source E1 line 2\n"),
+        ("int g; int main(void){h=5;return 0;}", "source E1 line 1\n"),
+        (
+            "int g; int main(void){g=5;\nreturn0;}",
+            "source E1 line 2\n",
+        ),
+        (
+            "int g;\nint g;int main(void){return 0;}",
+            "source E2 line 2\n",
+        ),
+        ("int emit; int main(void){return 0;}", "source E2 line 1\n"),
+        ("int main(void){return;}", "source E3 line 1\n"),
+        (
+            "struct s {int m;} x;\nint main(void){return x;}",
+            "source E3 line 2\n",
+        ),
+        ("int main(void){\n\n5=1;return 0;}", "source E4 line 3\n"),
+        (
+            "int f(int a){return a;}\nint main(void){return f();}",
+            "source E5 line 2\n",
+        ),
+        (
+            "int f(void);int main(void){\nreturn f();}",
+            "source E6 line 2\n",
+        ),
+        (
+            "int a[9000]; int main(void){return 0;}",
+            "source E7 line 1\n",
+        ),
+        (
+            "const int c=1;int main(void){\nc=2;return 0;}",
+            "source E9 line 2\n",
+        ),
+        (
+            "int g=1;\nint h=g;int main(void){return 0;}",
+            "source E10 line 2\n",
+        ),
+    ] {
+        expect_run(&rt, rt.alloc(), source, 1, text)?;
+    }
+    Ok(())
+}
+
+#[test]
+fn a_source_without_main_is_refused_without_a_line(rt: HostRuntime) -> Result<(), Fail> {
     for source in [
         "",
         "int g;",
         "int main(void);",
-        "int main(){return 0;}",
         "int main(int a){return 0;}",
         "int start(void){return 0;}",
         "unsigned main(void){return 0;}",
+    ] {
+        expect_run(&rt, rt.alloc(), source, 1, "source E8\n")?;
+    }
+    Ok(())
+}
+
+#[test]
+fn a_source_is_judged_in_order(rt: HostRuntime) -> Result<(), Fail> {
+    let alloc = rt.alloc();
+    expect_run(
+        &rt,
+        alloc,
+        "int main(void){return x}",
+        1,
+        "source P1 line 1\n",
+    )?;
+    let source = repeated(alloc, "int main(void){", ";", 19_998, "return x;}")?;
+    expect_run(&rt, alloc, source.as_str(), 1, "source S4\n")?;
+    // Annotations are not checked yet, and so nothing else is.
+    let source = "@expires_after(5 s) int g; int main(void){return x;}";
+    expect_run(&rt, alloc, source, 13, "unsupported\n")?;
+    // The trace is not looked at before.
+    let seen = call(alloc, &["run", "c", "missing"], "", PLAIN, &[], &[])?;
+    assert_eq!(rt; seen.status, 1);
+    assert_eq!(rt; seen.read_faults, 0);
+    Ok(())
+}
+
+#[test]
+fn a_program_of_another_form_is_unsupported(rt: HostRuntime) -> Result<(), Fail> {
+    for source in [
+        "int main(){return 0;}",
         "static int main(void){return 0;}",
         "int main(void){}",
-        "int main(void){return;}",
         "int main(void){return 1;}",
         "int main(void){return 00;}",
         "int main(void){return (0);}",
@@ -211,9 +230,6 @@ fn a_tree_of_another_form_is_unsupported(rt: HostRuntime) -> Result<(), Fail> {
         "static int g; int main(void){return 0;}",
         "@expires_after(5 s) int g; int main(void){return 0;}",
         "struct s {int m;}; int main(void){return 0;}",
-        "int g; int g; int main(void){return 0;}",
-        "int emit; int main(void){return 0;}",
-        "int g; int main(void){h=5;return 0;}",
         "int g; int main(void){g=5+1;return 0;}",
         "int g; int main(void){g=05;return 0;}",
         "int g; int main(void){g=0x5;return 0;}",
@@ -224,7 +240,6 @@ fn a_tree_of_another_form_is_unsupported(rt: HostRuntime) -> Result<(), Fail> {
         "int g; int main(void){g=32768;return 0;}",
         "int g; int main(void){g=-1;return 0;}",
         "int g; int main(void){{g=5;}return 0;}",
-        "int g; int main(void){g=5;return0;}",
     ] {
         expect_run(&rt, rt.alloc(), source, 13, "unsupported\n")?;
     }
@@ -248,7 +263,7 @@ fn another_trace_is_unsupported(rt: HostRuntime) -> Result<(), Fail> {
 
 #[test]
 fn other_words_are_no_command(rt: HostRuntime) -> Result<(), Fail> {
-    let lines: [&[&str]; 8] = [
+    let lines: [&[&str]; 14] = [
         &[],
         &["run"],
         &["run", "c"],
@@ -257,6 +272,12 @@ fn other_words_are_no_command(rt: HostRuntime) -> Result<(), Fail> {
         &["run", "", "t"],
         &["run", "c", "-t"],
         &["run", "--", "c"],
+        &["meaning", "c"],
+        &["meaning", "c", "t", "t"],
+        &["meaning", "c", ""],
+        &["meaning", "-c", "t"],
+        &["mean", "c", "t"],
+        &["Run", "c", "t"],
     ];
     for words in lines {
         let seen = call(rt.alloc(), words, STORE, PLAIN, &[], &[])?;

@@ -2,6 +2,10 @@
 #![tactic(auto)]
 
 #[cfg(test)]
+mod calls;
+#[cfg(test)]
 mod commands;
+#[cfg(test)]
+mod meanings;
 #[cfg(test)]
 mod outside;

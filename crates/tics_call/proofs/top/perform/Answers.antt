@@ -1,104 +1,31 @@
--- What each way through the program comes to.
-use Rattle.std.proofs.Common.{◌≡◌, ◌∙◌, ap, sym, subst, inl, inr, refl, Err, List, ℕ}
-use Rattle.std.specs.Prelude.{IsSomeAnd}
-use Rattle.std.specs.List.{concat}
-use Rattle.edge.specs.Told.{Appends}
-use Rattle.tics_call.specs.declared.outcome.Outcome.TheVariants.{Done, Refused, Usage, ReadFault, Unsupported}
-use Rattle.tics_call.specs.Command.{texts, command_of}
-use Rattle.tics_call.specs.Outcome.{Seen, seen_by, IsText, refused, usage, fault, unsupported, printed, ComesTo, HasRun, Refuses, IsUnsupported, usage_text, fault_text, unsupported_text, report_of}
-use Rattle.tics_call.specs.Source.{refusal_text}
-use Rattle.tics_call.proofs.OutcomeLaws.{said_text, said_lines, at_command}
+-- What each command comes to.
+use Rattle.std.proofs.Common.{◌≡◌, ◌∙◌, ap, sym, subst, inl, refl, Option, Some}
+use Rattle.tics_call.specs.declared.command.Verb.{Verb}
+use Rattle.tics_call.specs.declared.outcome.Outcome.TheVariants.{Usage}
+use Rattle.tics_call.specs.Command.{Order, Meaning, texts, command_of, ordered}
+use Rattle.tics_call.specs.Outcome.{Seen, seen_by, usage, ComesTo, usage_text}
+use Rattle.tics_call.proofs.OutcomeLaws.{said_text}
 use Rattle.tics_call.proofs.top.perform.Goals as goal
 
-pub returns-in_default-clause-comes_to : goal.returns-in_default-clause-comes_to
-returns-in_default-clause-comes_to g c =
+pub returns-in-None-clause-comes_to : goal.returns-in-None-clause-comes_to
+returns-in-None-clause-comes_to g c =
     let seen : Seen = seen_by g.F.Files.contents g.F.Files.faults g.F.Files.last g.K.Sink.bytes g.K.Sink.faults
     (command_of (texts c.args.words.now)) c.args.files.now c.args.files.now c.args.out.now c.put.new.self c.args.book.now.records
     c.args.book.now.records in
     subst (ComesTo seen) (sym c.said.ensures)
-    (said_text seen usage_text Usage c.put.result (usage c.in_default.ensures) (inl refl) (λ t. record {
-      words =
-          c.in_default.ensures;
-      text = t;
-      book = refl;
-    })
+    (said_text seen usage_text Usage c.put.result (usage c.in-None.ensures) (inl refl)
+    (λ t. record { words = c.in-None.ensures; text = t; book = refl })
     c.put.ensures.ok c.put.ensures.failed c.put.ensures.front c.put.ensures.no_memory)
 
-pub returns-in-Err-ReadFault-clause-comes_to : goal.returns-in-Err-ReadFault-clause-comes_to
-returns-in-Err-ReadFault-clause-comes_to g c =
-    let seen : Seen = seen_by g.F.Files.contents g.F.Files.faults g.F.Files.last g.K.Sink.bytes g.K.Sink.faults
-    (command_of (texts c.args.words.now)) c.args.files.now c.accept.new.files c.args.out.now c.put-in-Err-ReadFault.new.self
-    c.args.book.now.records
-    c.args.book.now.records in
-    let risen = c.in-Err-ReadFault.ensures.fault (ap Err c.in-Err-ReadFault.field-0-is) in
-    subst (ComesTo seen) (sym c.said-in-Err-ReadFault.ensures)
-    (said_text seen fault_text ReadFault c.put-in-Err-ReadFault.result (fault risen) (inl refl)
-    (λ t. record {
-      risen = risen;
-      named = at_command (command_of (texts c.args.words.now)) _ _ c.in-Some.ensures
-          (c.in-Err-ReadFault.ensures.named (ap Err c.in-Err-ReadFault.field-0-is));
-      text = t;
-      book = refl;
-    })
-    c.put-in-Err-ReadFault.ensures.ok c.put-in-Err-ReadFault.ensures.failed c.put-in-Err-ReadFault.ensures.front
-    c.put-in-Err-ReadFault.ensures.no_memory)
-
-pub returns-in-Err-Unsupported-clause-comes_to : goal.returns-in-Err-Unsupported-clause-comes_to
-returns-in-Err-Unsupported-clause-comes_to g c =
-    let seen : Seen = seen_by g.F.Files.contents g.F.Files.faults g.F.Files.last g.K.Sink.bytes g.K.Sink.faults
-    (command_of (texts c.args.words.now)) c.args.files.now c.accept.new.files c.args.out.now c.put-in-Err-Unsupported.new.self
-    c.args.book.now.records
-    c.args.book.now.records in
-    let cause : IsSomeAnd (command_of (texts c.args.words.now)) (λ p. IsUnsupported (g.F.Files.contents c.args.files.now) p) =
-    at_command (command_of (texts c.args.words.now)) _ _ c.in-Some.ensures
-    (c.in-Err-Unsupported.ensures.unsupported (ap Err c.in-Err-Unsupported.field-0-is)) in
-    subst (ComesTo seen) (sym c.said-in-Err-Unsupported.ensures)
-    (said_text seen unsupported_text Unsupported c.put-in-Err-Unsupported.result (unsupported cause) (inl refl)
-    (λ t. record { cause = cause; text = t; book = refl })
-    c.put-in-Err-Unsupported.ensures.ok c.put-in-Err-Unsupported.ensures.failed c.put-in-Err-Unsupported.ensures.front
-    c.put-in-Err-Unsupported.ensures.no_memory)
-
-pub returns-in-Ok-text-clause-comes_to : goal.returns-in-Ok-text-clause-comes_to
-returns-in-Ok-text-clause-comes_to g c =
-    let seen : Seen = seen_by g.F.Files.contents g.F.Files.faults g.F.Files.last g.K.Sink.bytes g.K.Sink.faults
-    (command_of (texts c.args.words.now)) c.args.files.now c.accept.new.files c.args.out.now c.put-in-Ok-text.new.self
-    c.args.book.now.records
-    c.args.book.now.records in
-    let reason = c.in-Err-Source.fault in
-    let cause : IsSomeAnd (command_of (texts c.args.words.now)) (λ p. Refuses (g.F.Files.contents c.args.files.now) p reason) =
-    at_command (command_of (texts c.args.words.now)) _ _ c.in-Some.ensures
-    (c.in-Err-Source.ensures.refused reason (ap Err c.in-Err-Source.field-0-is)) in
-    let text : c.as_slice.result.now ≡ refusal_text reason = c.as_slice.ensures.value ∙ c.in-Ok-text.ensures in
-    subst (ComesTo seen) (sym c.said-in-Ok-text.ensures)
-    (said_text seen c.as_slice.result.now (Refused reason) c.put-in-Ok-text.result
-    (subst (λ (t : List ℕ). IsText seen.files seen.command seen.faults seen.faults_after seen.records_after t) (sym text)
-    (refused reason cause)) (inl refl)
-    (λ t. record { cause = cause; text = subst (λ (x : List ℕ). Appends seen.bytes seen.bytes_after x) text t; book = refl })
-    c.put-in-Ok-text.ensures.ok c.put-in-Ok-text.ensures.failed c.put-in-Ok-text.ensures.front c.put-in-Ok-text.ensures.no_memory)
-
-pub returns-in-Ok-run_and_report-clause-comes_to : goal.returns-in-Ok-run_and_report-clause-comes_to
-returns-in-Ok-run_and_report-clause-comes_to g c =
-    let seen : Seen = seen_by g.F.Files.contents g.F.Files.faults g.F.Files.last g.K.Sink.bytes g.K.Sink.faults
-    (command_of (texts c.args.words.now)) c.args.files.now c.accept.new.files c.args.out.now c.print.new.out
-    c.args.book.now.records
-    c.run_and_report.new.book.records in
-    let run : HasRun (g.F.Files.contents c.args.files.now) (command_of
-    (texts c.args.words.now)) c.run_and_report.new.book.records c.in-Ok.program =
-    record {
-      accepted = at_command (command_of (texts c.args.words.now)) _ _ c.in-Some.ensures c.in-Ok.ensures.ok;
-      history =
-          c.in-Ok-run_and_report.ensures.history;
-    } in
-    let text : concat c.as_slice-in-Ok-run_and_report.result.now ≡ report_of c.in-Ok.program =
-    ap concat c.as_slice-in-Ok-run_and_report.ensures.value ∙ c.in-Ok-run_and_report.ensures.lines in
-    subst (ComesTo seen) (sym c.said-in-Ok-run_and_report.ensures)
-    (said_lines seen (concat c.as_slice-in-Ok-run_and_report.result.now) Done c.print.result
-    (subst (λ (t : List ℕ). IsText seen.files seen.command seen.faults seen.faults_after seen.records_after t) (sym text)
-    (printed c.in-Ok.program run)) (inr (c.in-Ok.program, run))
-    (λ t. record {
-      program = c.in-Ok.program;
-      run = run;
-      printed =
-          subst (λ (x : List ℕ). Appends seen.bytes seen.bytes_after x) text t;
-    })
-    c.print.ensures.ok c.print.ensures.failed c.print.ensures.front)
+pub returns-in-Some-Meaning-default-default-clause-comes_to :
+    goal.returns-in-Some-Meaning-default-default-clause-comes_to
+returns-in-Some-Meaning-default-default-clause-comes_to g c =
+    let source = c.in-Some-Meaning-default-default.source in
+    let readings = c.in-Some-Meaning-default-default.readings in
+    let order : command_of (texts c.args.words.now) ≡ Some (Meaning (source.now, readings.now)) =
+    c.in-Some-Meaning-default-default.ensures
+    ∙ ap (λ (v : Verb). Some (ordered v (source.now, readings.now))) c.in-Some-Meaning-default-default.field-0-0-is in
+    subst (λ (o : Option Order). ComesTo (seen_by g.F.Files.contents g.F.Files.faults g.F.Files.last g.K.Sink.bytes
+    g.K.Sink.faults o c.args.files.now c.meaning_order.new.files c.args.out.now c.meaning_order.new.out
+    c.args.book.now.records c.args.book.now.records) c.meaning_order.result)
+    (sym order) (c.meaning_order.ensures.comes_to c.args.book.now.records)
