@@ -1,0 +1,6 @@
+//! Laws on numbering: what is lawful before its nodes are numbered is lawful behind it, and its numbers count from 0.
+#![tactic(auto)]
+
+mod laws;
+
+pub use laws::{expressions_stay_lawful, statements_stay_lawful};
