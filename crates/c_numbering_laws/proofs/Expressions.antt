@@ -1,11 +1,9 @@
 -- Lawful expressions stay lawful when their nodes are numbered, by induction over what makes them lawful.
-use Rattle.std.proofs.Common.{◌≡◌, ℕ, ◌+◌, Bool, true, false, not, ◌||◌, List, [], ◌∷◌, map, slice_get, Option, Some, None, pos, refl, sym, ap, subst, ◌∙◌, rules}
+use Rattle.std.proofs.Common.{◌≡◌, ℕ, ◌+◌, Bool, true, false, ◌||◌, List, map, slice_get, Some, None, pos, refl, sym, ap, subst, ◌∙◌, rules}
 use Rattle.base16.specs.declared.integer.IntType.TheVariants.{Int, UInt}
 use Rattle.base16.specs.declared.operator.UnaryOp.TheVariants as un
 use Rattle.core_tree.specs.Rules.{promoted, result_in}
 use Rattle.core_tree.specs.declared.types.Ty.{Ty}
-use Rattle.core_tree.specs.declared.types.Struct.{Struct}
-use Rattle.core_tree.specs.declared.types.Member.{Member}
 use Rattle.core_tree.specs.declared.types.Ty.TheVariants as ty
 use Rattle.core_tree.specs.declared.expressions.Expr.{Expr}
 use Rattle.core_tree.specs.declared.expressions.Place.{Place}
@@ -15,7 +13,6 @@ use Rattle.core_tree.specs.declared.expressions.ExprKind.TheVariants as k
 use Rattle.core_tree.specs.declared.expressions.PlaceKind.TheVariants as pk
 use Rattle.core_tree.specs.declared.program.Global.{Global}
 use Rattle.core_tree.specs.declared.program.Function.{Function}
-use Rattle.core_tree.specs.Layout.{members_of}
 use Rattle.core_tree.specs.Lawful.{Scope, Complete, IsUntimed, HasType, IsExpr, is_expr, HasPlaceType, IsPlace, is_place, IsStored, AreExprs, is_const, is_local_path, is_constant, is_marked, either_const}
 use Rattle.c_checking.specs.Numbering.{Numbered, pure, each, expr_numbered, place_numbered}
 use Rattle.c_numbering_laws.proofs.Layers as l
@@ -203,7 +200,8 @@ module _ (s z : Scope) (same : Alike s z) where
         kind_is (k.PointerPlus minus a b) (k.PointerPlus minus x y) _ (ty.Pointer to readonly) n
         (l.numbered-PointerPlus minus a b) refl
         (HasType.pointer_plus minus x y to readonly by (complete to whole) (expr_stays p n).typed (expr_stays q m).typed)
-        (no_constants (k.PointerPlus minus a b) (k.PointerPlus minus x y) (search (rules, the_lemmas)) (search (rules, the_lemmas)))
+        (no_constants (k.PointerPlus minus a b) (k.PointerPlus minus x y)
+        (search (rules, the_lemmas)) (search (rules, the_lemmas)))
     kind_stays (HasType.plus_pointer a b to readonly by whole p q) n =
         let x = (expr_numbered a n).0 in
         let m = (expr_numbered a n).1 in
@@ -211,7 +209,8 @@ module _ (s z : Scope) (same : Alike s z) where
         kind_is (k.PointerPlus false a b) (k.PointerPlus false x y) _ (ty.Pointer to readonly) n
         (l.numbered-PointerPlus false a b) refl
         (HasType.plus_pointer x y to readonly by (complete to whole) (expr_stays p n).typed (expr_stays q m).typed)
-        (no_constants (k.PointerPlus false a b) (k.PointerPlus false x y) (search (rules, the_lemmas)) (search (rules, the_lemmas)))
+        (no_constants (k.PointerPlus false a b) (k.PointerPlus false x y)
+        (search (rules, the_lemmas)) (search (rules, the_lemmas)))
     kind_stays (HasType.difference a b to r u whole p q) n =
         let x = (expr_numbered a n).0 in
         let m = (expr_numbered a n).1 in
@@ -229,7 +228,8 @@ module _ (s z : Scope) (same : Alike s z) where
         (HasType.compared o x y to r u is
         (λ order. same_either (is_constant x.kind) (is_constant y.kind) (is_constant a.kind) (is_constant b.kind) v.constant
         w.constant (plain order)) v.typed w.typed)
-        (no_constants (k.ComparePointers o a b) (k.ComparePointers o x y) (search (rules, the_lemmas)) (search (rules, the_lemmas)))
+        (no_constants (k.ComparePointers o a b) (k.ComparePointers o x y)
+        (search (rules, the_lemmas)) (search (rules, the_lemmas)))
     kind_stays (HasType.both a b t u p q one other) n =
         let x = (expr_numbered a n).0 in
         let m = (expr_numbered a n).1 in
@@ -282,7 +282,8 @@ module _ (s z : Scope) (same : Alike s z) where
         let q = (place_numbered p n).0 in
         let m = (place_numbered p n).1 in
         let x = (expr_numbered v m).0 in
-        kind_is (k.Update o (Some (promoted own)) p v old marked) (k.Update o (Some (promoted own)) q x old marked) _ (ty.Num own) n
+        kind_is (k.Update o (Some (promoted own)) p v old marked) (k.Update o (Some (promoted own)) q x old marked)
+        _ (ty.Num own) n
         (l.numbered-Update o (Some (promoted own)) p v old marked) refl
         (HasType.shifted o own by q x old marked is computed (stored_stays to n) (expr_stays i m).typed)
         (no_constants (k.Update o (Some (promoted own)) p v old marked) (k.Update o (Some (promoted own)) q x old marked)
@@ -341,14 +342,16 @@ module _ (s z : Scope) (same : Alike s z) where
         let q = (place_numbered p n).0 in
         let w = place_stays at n in
         place_kind_is (pk.Member p tag i) (pk.Member q tag i) _ m.ty n (l.numbered-Member p tag i) refl
-        (HasPlaceType.member q tag i m w.typed (rw same.structs is)) (const_member p q tag i w.const) (path_member p q tag i w.path)
+        (HasPlaceType.member q tag i m w.typed (rw same.structs is))
+        (const_member p q tag i w.const) (path_member p q tag i w.path)
     place_kind_stays (HasPlaceType.element p i of count t at is) n =
         let q = (place_numbered p n).0 in
         let m = (place_numbered p n).1 in
         let x = (expr_numbered i m).0 in
         let w = place_stays at n in
         place_kind_is (pk.Element p i) (pk.Element q x) _ of n (l.numbered-Element p i) refl
-        (HasPlaceType.element q x of count t w.typed (expr_stays is m).typed) (const_element p q i x w.const) (path_element p q i x)
+        (HasPlaceType.element q x of count t w.typed (expr_stays is m).typed)
+        (const_element p q i x w.const) (path_element p q i x)
     place_kind_stays (HasPlaceType.pointer_at a b to readonly t whole p q) n =
         let x = (expr_numbered a n).0 in
         let m = (expr_numbered a n).1 in

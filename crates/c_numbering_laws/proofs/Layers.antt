@@ -18,7 +18,8 @@ kind_numbered = fold-ExprKind (Numbered ExprKind) (Numbered PlaceKind) (Numbered
     (λ x. node (λ n kind. record { kind = kind; ty = x.ty; node = n; line = x.line }) x.kind)
 
 abbrev pub place_kind_numbered : PlaceKind → Numbered PlaceKind
-place_kind_numbered = fold-PlaceKind (Numbered ExprKind) (Numbered PlaceKind) (Numbered Expr) (Numbered Place) expr_step place_step
+place_kind_numbered = fold-PlaceKind (Numbered ExprKind) (Numbered PlaceKind) (Numbered Expr) (Numbered Place)
+    expr_step place_step
     (λ x. node (λ n kind. record { kind = kind; ty = x.ty; node = n; line = x.line }) x.kind)
     (λ x. node (λ n kind. record { kind = kind; ty = x.ty; node = n; line = x.line }) x.kind)
 

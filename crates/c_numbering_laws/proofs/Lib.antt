@@ -3,3 +3,8 @@ pub mod Expressions
 pub mod Scopes
 pub mod StmtLayers
 pub mod Statements
+pub mod Counting
+pub mod ExprNumbers
+pub mod StmtNumbers
+pub mod Starts
+pub mod Program

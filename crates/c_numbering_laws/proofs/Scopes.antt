@@ -1,8 +1,7 @@
 -- What a program has is what it has with its nodes numbered.
-use Rattle.std.proofs.Common.{◌≡◌, ℕ, zero, suc, ◌+◌, false, List, [], ◌∷◌, map, slice_get, Some, refl, ap, rules}
+use Rattle.std.proofs.Common.{◌≡◌, ℕ, zero, suc, false, List, [], ◌∷◌, map, slice_get, Some, refl, ap, rules}
 use Rattle.core_tree.specs.declared.types.Ty.{Ty}
 use Rattle.core_tree.specs.declared.expressions.Expr.{Expr}
-use Rattle.core_tree.specs.declared.program.Core.{Core}
 use Rattle.core_tree.specs.declared.program.Global.{Global}
 use Rattle.core_tree.specs.declared.program.Function.{Function}
 use Rattle.core_tree.specs.Lawful.{Scope}
@@ -19,7 +18,8 @@ global_at p (x ∷ gs) (suc n) g is = global_at p gs n g is
 
 -- a function, numbered or not
 function_at : (fs : List Function) (m n : ℕ) (f : Function) → slice_get fs n ≡ Some f
-    → (g : Function) × (slice_get (each (map function_numbered fs) m).0 n ≡ Some g) × (g.params ≡ f.params) × (g.result ≡ f.result)
+    → (g : Function) × (slice_get (each (map function_numbered fs) m).0 n ≡ Some g) × (g.params ≡ f.params)
+    × (g.result ≡ f.result)
 function_at [] m n f is = absurd (search rules)
 function_at (x ∷ fs) m zero f is =
     let e : x ≡ f = cc in

@@ -1,5 +1,5 @@
 -- Lawful statements stay lawful when their nodes are numbered, by induction over what makes them lawful.
-use Rattle.std.proofs.Common.{◌≡◌, ℕ, ◌+◌, ◌≤◌, Bool, true, false, List, [], ◌∷◌, ◌++◌, map, length, slice_get, Option, Some, None, refl, sym, ap, subst, ◌∙◌, rules}
+use Rattle.std.proofs.Common.{◌≡◌, ℕ, ◌+◌, false, List, [], ◌∷◌, map, Option, Some, None, refl, sym, ap, subst, ◌∙◌, rules}
 use Rattle.core_tree.specs.declared.types.Ty.{Ty}
 use Rattle.core_tree.specs.declared.types.Ty.TheVariants as ty
 use Rattle.core_tree.specs.declared.types.Slot.{Slot}
@@ -10,13 +10,13 @@ use Rattle.core_tree.specs.declared.statements.Stmt.{Stmt}
 use Rattle.core_tree.specs.declared.statements.Init.{Init}
 use Rattle.core_tree.specs.declared.statements.StmtKind.{StmtKind}
 use Rattle.core_tree.specs.declared.statements.StmtKind.TheVariants as k
-use Rattle.core_tree.specs.declared.statements.Group.{Group, out-Group}
+use Rattle.core_tree.specs.declared.statements.Group.{Group}
 use Rattle.core_tree.specs.Layout.{layout}
-use Rattle.core_tree.specs.Lawful.{Scope, IsExpr, IsPlace, is_place, IsTimedScalar}
-use Rattle.core_tree.specs.LawfulCore.{Every, OnSome, Apart, Text, in_loop, in_switch, in_block, IsTest, Lawful, IsInit, AreInits, Initialised, scalar_types, struct_leaves, leaves_in, IsNamed, unchecked, all_labels, IsDeclaration, is_declaration, IsFirst, first_expression, first_declarations, IsAsked, IsStmt, AreStmts, AreGroups}
+use Rattle.core_tree.specs.Lawful.{Scope, IsExpr, IsPlace, is_place}
+use Rattle.core_tree.specs.LawfulCore.{Every, OnSome, Text, IsTest, Lawful, AreInits, Initialised, scalar_types, struct_leaves, leaves_in, IsNamed, unchecked, all_labels, IsDeclaration, is_declaration, IsFirst, first_expression, first_declarations, IsAsked, IsStmt, AreStmts, AreGroups}
 use Rattle.c_checking.specs.Numbering.{Numbered, each, maybe_expr, expr_numbered, place_numbered, places_numbered, init_numbered, stmt_numbered}
 use Rattle.c_numbering_laws.specs.Kept.{numbered_scope, numbered_text}
-use Rattle.c_numbering_laws.proofs.Expressions.{Alike, expr_stays, place_stays}
+use Rattle.c_numbering_laws.proofs.Expressions.{expr_stays, place_stays}
 use Rattle.c_numbering_laws.proofs.StmtLayers as l
 use Rattle.c_numbering_laws.proofs.StmtLayers.{stmt_kind_numbered, group_numbered, group_out, group_next}
 use Rattle.c_numbering_laws.proofs.Scopes.{alike}

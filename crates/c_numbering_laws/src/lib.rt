@@ -3,4 +3,7 @@
 
 mod laws;
 
-pub use laws::{expressions_stay_lawful, statements_stay_lawful};
+pub use laws::{
+    expressions_count, expressions_stay_lawful, numbered_is_lawful, programs_count,
+    statements_count, statements_stay_lawful,
+};
