@@ -16,3 +16,10 @@ pub mod Structs
 pub mod Values
 pub mod Once
 pub mod Names
+pub mod Extents
+pub mod Addresses
+pub mod Initials
+pub mod Globals
+pub mod Counts
+pub mod Programs
+pub mod Order

@@ -70,7 +70,7 @@ object_stays = ind-Ty StaysObject (λ x y is. object_layer (λ e. e.0) (λ e. e.
 
 -- ---- tables of structs
 
-layouts_more : (known : List Layout) (ss : List Struct) → Begins known (layouts_from known ss)
+pub layouts_more : (known : List Layout) (ss : List Struct) → Begins known (layouts_from known ss)
 layouts_more known [] = ([], sym (append-nil known))
 layouts_more known (s ∷ ss) =
     let w = layouts_more (known ++ struct_layout known s ∷ []) ss in
@@ -81,14 +81,14 @@ layouts_split : (known : List Layout) (ss more : List Struct)
 layouts_split known [] more = refl
 layouts_split known (s ∷ ss) more = layouts_split (known ++ struct_layout known s ∷ []) ss more
 
-layouts_count : (known : List Layout) (ss : List Struct) → length (layouts_from known ss) ≡ length known + length ss
+pub layouts_count : (known : List Layout) (ss : List Struct) → length (layouts_from known ss) ≡ length known + length ss
 layouts_count known [] = omega arith
 layouts_count known (s ∷ ss) =
     let h = layouts_count (known ++ struct_layout known s ∷ []) ss in
     let g : length (known ++ struct_layout known s ∷ []) ≡ length known + 1 =
     length-append known (struct_layout known s ∷ []) in omega arith
 
-layouts_begin : (ss all : List Struct) → Begins ss all → Begins (layouts ss) (layouts all)
+pub layouts_begin : (ss all : List Struct) → Begins ss all → Begins (layouts ss) (layouts all)
 layouts_begin ss all b =
     let w = layouts_more (layouts ss) b.0 in
     (w.0, ap layouts b.1 ∙ layouts_split [] ss b.0 ∙ w.1)
@@ -127,7 +127,7 @@ KeepsLayout t = (all below : ℕ) (known more : List Layout) → below ≤ lengt
 abbrev array_layout : ℕ → Layout → Layout
 array_layout n of = record { size = n * of.size; even = of.even; slots = copies n 0 of }
 
-test_below : (n m : ℕ) → nat_lt n m ≡ true → n < m
+pub test_below : (n m : ℕ) → nat_lt n m ≡ true → n < m
 test_below n m is = grind (arith, tests)
 
 module _ {A : Type 0} (inner : A → Ty) (deeper : (a : A) → KeepsLayout (inner a)) where

@@ -78,7 +78,8 @@ named_function (g ∷ functions) (suc i) name is = named_function functions i na
 
 -- ---- what is declared at a point
 
-every_two : {A : Type 0} (P Q R : A → Type 0) (xs : List A) → ((x : A) → P x → Q x → R x) → Every P xs → Every Q xs → Every R xs
+pub every_two : {A : Type 0} (P Q R : A → Type 0) (xs : List A) → ((x : A) → P x → Q x → R x) → Every P xs → Every Q xs
+    → Every R xs
 every_two P Q R [] f p q = tt
 every_two P Q R (x ∷ xs) f p q = (f x p.0 q.0, every_two P Q R xs f p.1 q.1)
 

@@ -233,7 +233,7 @@ body_structs names f h d behind env (Some c) is =
     (compound_steady c (entering h env) t.first.1 t.first.0 t.is_first) in
     sym (ap (λ (z : Draft). z.env.structs) (done t.is_next)) ∙ o.structs
 
-function_structs : (names : List (List ℕ)) (f : SourceFunction) (d behind : Draft) → function names f d ≡ Ok behind
+pub function_structs : (names : List (List ℕ)) (f : SourceFunction) (d behind : Draft) → function names f d ≡ Ok behind
     → behind.env.structs ≡ d.env.structs
 unfolding function
 function_structs names f d behind is =
@@ -294,7 +294,7 @@ entered_structs : (line : ℕ) (made : Env) (b : Bool) (z : Env) → cond b (bro
 entered_structs line made true z is = absurd (search rules)
 entered_structs line made false z is = cc
 
-same_structs : (base : Env → Result Qualified Rule) (i : Init) (d behind : Draft) → global base i d ≡ Ok behind
+pub same_structs : (base : Env → Result Qualified Rule) (i : Init) (d behind : Draft) → global base i d ≡ Ok behind
     → behind.env.structs ≡ d.env.structs
 unfolding global
 same_structs base i d behind is =
@@ -305,7 +305,7 @@ same_structs base i d behind is =
     (is_taken d.env i.declr.name) u.first u.is_first in
     sym (ap (λ (z : Draft). z.env.structs) (done v.is_next)) ∙ sym (ap (λ (z : Env). z.structs) k)
 
-same_globals : (s : SourceStruct) (d behind : Draft) → structure s d ≡ Ok behind → d.globals ≡ behind.globals
+pub same_globals : (s : SourceStruct) (d behind : Draft) → structure s d ≡ Ok behind → d.globals ≡ behind.globals
 unfolding structure
 same_globals s d behind is =
     let t = then_is (checked_fields (defining s.name d.env) s) _ behind is in ap (λ (z : Draft). z.globals) (done t.is_next)
@@ -316,7 +316,7 @@ body_globals f h d behind env None is = ap (λ (z : Draft). z.globals) (done is)
 body_globals f h d behind env (Some c) is =
     let t = then_is (compound c (entering h env)) _ behind is in ap (λ (z : Draft). z.globals) (done t.is_next)
 
-function_globals : (names : List (List ℕ)) (f : SourceFunction) (d behind : Draft) → function names f d ≡ Ok behind
+pub function_globals : (names : List (List ℕ)) (f : SourceFunction) (d behind : Draft) → function names f d ≡ Ok behind
     → d.globals ≡ behind.globals
 unfolding function
 function_globals names f d behind is =

@@ -11,6 +11,7 @@ ghost use Rattle.core_tree.specs.declared.types.Ty.{Ty};
 ghost use Rattle.core_tree.specs.declared.statements.Init.{Init as Store};
 ghost use Rattle.core_tree.specs.declared.statements.Stmt.{Stmt};
 ghost use Rattle.core_tree.specs.declared.program.Core.{Core};
+ghost use Rattle.core_tree.specs.declared.program.Typed.{Typed};
 ghost use Rattle.core_tree.specs.declared.expressions.Expr.{Expr};
 ghost use Rattle.core_tree.specs.Lawful.{Scope};
 ghost use Rattle.core_tree.specs.LawfulCore.{Text};
@@ -20,6 +21,8 @@ ghost use Rattle.c_checking.specs.Functions.{Head};
 ghost use Rattle.c_checking_laws.specs.Standing.{ExpressionsMayRest};
 ghost use Rattle.c_checking_laws.specs.Accepted.{ObjectIsWhole, StoresAreLawful, DeclaratorIsLawful, BlockIsLawful};
 ghost use Rattle.c_checking_laws.specs.Accepted.{HeadIsLawful, FunctionIsLawful, ConstantIsValue};
+ghost use Rattle.c_checking_laws.specs.Programs.{GlobalsOfSource, FewOfSource, GlobalsInOrder, WalkedIsLawful};
+ghost use Rattle.c_checking_laws.specs.Programs.{AcceptedIsLawful};
 ghost use Rattle.c_checking_laws.specs.Walked.{PointStands, FunctionsOfSource, MainIsThere, NamesOfSource, StructsOfSource};
 
 /// Expressions of a function may rest on what is declared at their point of the text.
@@ -93,4 +96,32 @@ pub fn main_is_there()
 /// The names of variables and functions of a source that breaks no rule stand once each, and are none that the language has.
 pub fn names_stand_once()
     ensures { (tree : Tree) → (last : Draft) → NamesOfSource tree last }
+{}
+
+/// Each variable of a source that breaks no rule is lawful in the program that the walk makes: each of its scalars begins with
+/// a value of its type, the null pointer, or the address of a place inside a variable that is declared by then.
+pub fn globals_of_sources_are_lawful()
+    ensures { (tree : Tree) → (last : Draft) → GlobalsOfSource tree last }
+{}
+
+/// A source that breaks no rule has no more structs than nodes, and defines no more functions.
+pub fn structs_and_functions_are_few()
+    ensures { (tree : Tree) → (last : Draft) → FewOfSource tree last }
+{}
+
+/// Before each variable of a source that breaks no rule stand the functions that are defined so far: no fewer than before the
+/// variable in front of it, and no more than there are.
+pub fn variables_stand_in_order()
+    ensures { (tree : Tree) → (last : Draft) → GlobalsInOrder tree last }
+{}
+
+/// What the walk over a source that a text can have makes, of at most 20,000 nodes and with `main`, is lawful but for the
+/// numbers of its nodes.
+pub fn what_is_walked_is_lawful()
+    ensures { (tree : Tree) → (last : Draft) → WalkedIsLawful tree last }
+{}
+
+/// What the check accepts of a source that a text can have, of at most 20,000 nodes, is a lawful program.
+pub fn what_check_accepts_is_lawful()
+    ensures { (tree : Tree) → (typed : Typed) → AcceptedIsLawful tree typed }
 {}
