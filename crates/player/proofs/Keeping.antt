@@ -1,0 +1,254 @@
+-- What stays from moment to moment: time goes on, a record is added.
+use Rattle.std.proofs.Common.{◌≡◌, ℕ, ◌+◌, ◌*◌, ◌<◌, ◌≤◌, refl, sym, ap, ◌∙◌, subst, arith, None, List, [], ◌∷◌, ◌++◌, length, sum, append_assoc, append-nil}
+use Rattle.base16.specs.Memory.{words_of}
+use Rattle.base16.specs.declared.reading.Reading.{Reading}
+use Rattle.board_map.specs.Recovered.{Machine, recovered}
+use Rattle.board_map.specs.WellFormed.{IsWellFormed}
+use Rattle.fram.specs.Contents.{Contents}
+use Rattle.ideal430.specs.Agreement.{Agrees, Claim}
+use Rattle.ideal430.specs.Ideal.{Ideal}
+use Rattle.ideal430.specs.declared.state.IdealEnd.{IdealEnd}
+use Rattle.world.specs.History.{Point, Story, after}
+use Rattle.world.specs.World.{WorldState, Spends}
+use Rattle.world.specs.declared.history.Record.{Record}
+use Rattle.world.specs.declared.history.Record.TheVariants.{Read, Commit}
+use Rattle.player.specs.Form.{Phase, phase_after, cycles_in, read_in, reads_of}
+use Rattle.player.specs.Playing.{Origin, marks_of, commits_of, kept_in, added_in, story_in, IsFresh, HasRecovered, IsAny, Always, left_of, Powers, IsShut, IsPrinted, readings_so_far, Moment, now, Keeps}
+use Rattle.player.specs.Turning.{IsInCycle, read_records}
+use Rattle.player.proofs.Records.{cycles-more, in_cycle-more, adds-more, story-more, phase-more, reads-more, right-more, IsQuiet, quiet-last, quiet-right}
+
+-- ---- claims
+
+pub claim-map : (start : Ideal) (readings : List Reading) (n : ℕ) (P Q : Ideal → Type 0) → ((t : Ideal) → P t → Q t)
+    → Claim start readings n P → Claim start readings n Q
+claim-map start readings n P Q f c = λ clean. let h = c clean in (h.0, f _ h.1)
+
+pub has-still : (S : IdealEnd → Type 0) (period : ℕ) (m m2 : ℕ → ℕ) (t : Ideal) → recovered m2 ≡ recovered m
+    → HasRecovered S period m t → HasRecovered S period m2 t
+has-still S period m m2 t e h = record {
+  fits = subst (λ (r : Machine). Agrees t r.registers r.memory (r.state 0) None (r.state 3 + 65536 * r.state 4)) (sym e) h.fits;
+  fresh = subst (λ (r : Machine). IsFresh t.meter (commits_of r) period) (sym e) h.fresh;
+  stands = h.stands;
+}
+
+pub has-any : (S : IdealEnd → Type 0) (period : ℕ) (m : ℕ → ℕ) (t : Ideal) → HasRecovered S period m t
+    → HasRecovered IsAny period m t
+has-any S period m t h = record { fits = h.fits; fresh = h.fresh; stands = tt }
+
+-- ---- time goes on
+
+-- The memory recovers as before.
+pub record IsStill (f f2 : Contents) : Type 0 where
+  pub well_formed : IsWellFormed (words_of f2.words)
+  pub recovered : kept_in f2 ≡ kept_in f
+  pub poked : f2.poked ≡ f.poked
+
+pub still-same : (f : Contents) → IsWellFormed (words_of f.words) → IsStill f f
+still-same f h = record { well_formed = h; recovered = refl; poked = refl }
+
+pub still-join : (f g h : Contents) → IsStill f g → IsStill g h → IsStill f h
+still-join f g h a b = record { well_formed = b.well_formed; recovered = b.recovered ∙ a.recovered; poked = b.poked ∙ a.poked }
+
+-- Ticks may be spent, in one power cycle, and nothing is given.
+pub record Calm (w w2 : WorldState) : Type 0 where
+  pub later : w.spent ≤ w2.spent
+  pub whole : w2.spent + w2.left ≡ w.spent + w.left
+  pub spans : w2.spans ≡ w.spans
+  pub cycles : w2.cycles ≡ w.cycles
+  pub readings : w2.readings ≡ w.readings
+  pub period : w2.period ≡ w.period
+
+pub calm-spends : (n : ℕ) (w w2 : WorldState) → Spends n w w2 → Calm w w2
+calm-spends n w w2 k =
+    let spent : w2.spent ≡ w.spent + n = k.spent in
+    let left : w.left ≡ w2.left + n = k.left in
+    record {
+      later = omega arith;
+      whole = omega arith;
+      spans = k.spans;
+      cycles = k.cycles;
+      readings = k.readings;
+      period = k.period;
+    }
+
+ticks-calm : (begun : List ℕ) (before spent left spent2 left2 : ℕ) → 0 < length begun → spent2 + left2 ≡ spent + left
+    → spent + left_of begun left ≡ before + sum begun → spent2 + left_of begun left2 ≡ before + sum begun
+ticks-calm [] before spent left spent2 left2 some e h = absurd (omega arith)
+ticks-calm (x ∷ rest) before spent left spent2 left2 some e h = e ∙ h
+
+pub powers-calm : (o : Origin) (records : List Record) (w w2 : WorldState) → cycles_in o.records < cycles_in records → Calm w w2
+    → Powers o records w → Powers o records w2
+powers-calm o records w w2 some c p =
+    let n : cycles_in records ≡ cycles_in o.records + length p.begun = p.counted in
+    record {
+      begun = p.begun;
+      spans = c.spans ∙ p.spans;
+      ticks = ticks-calm p.begun o.world.spent w.spent w.left w2.spent w2.left (omega arith) c.whole p.ticks;
+      cycles = ap (λ k. k + length p.begun) c.cycles ∙ p.cycles;
+      counted = p.counted;
+    }
+
+pub keeps-on : (o : Origin) (form : Phase → Type 0) (S : IdealEnd → Type 0) (records : List Record) (f f2 : Contents)
+    (w w2 : WorldState) → IsStill f f2 → Calm w w2 → cycles_in o.records < cycles_in records
+    → Keeps o form S (now records f w) → Keeps o form S (now records f2 w2)
+keeps-on o form S records f f2 w w2 still calm some k =
+    let m = words_of f.words in
+    let m2 = words_of f2.words in
+    let later : w.spent ≤ w2.spent = calm.later in
+    record {
+      added = k.added;
+      form_is = k.form_is;
+      reads = calm.readings ∙ k.reads;
+      power = powers-calm o records w w2 some calm k.power;
+      commits = k.commits;
+      number = k.number ∙ sym (ap commits_of still.recovered);
+      marks = k.marks ∙ sym (ap marks_of still.recovered);
+      machine = λ start s. claim-map start (story_in o records).last.readings (story_in o records).last.instrs
+          (HasRecovered S o.world.period m) (HasRecovered S o.world.period m2)
+          (λ t h. has-still S o.world.period m m2 t still.recovered h) (k.machine start s);
+      instrs_later = omega (arith, k.instrs_later);
+      marks_later = subst (λ (x : Machine). marks_of x + o.world.spent ≤ marks_of (kept_in o.fram) + w2.spent)
+          (sym still.recovered) (omega (arith, k.marks_later));
+      commits_later = subst (λ (x : Machine). commits_of x + o.world.spent ≤ commits_of (kept_in o.fram) + w2.spent)
+          (sym still.recovered) (omega (arith, k.commits_later));
+      period = calm.period ∙ k.period;
+      well_formed = still.well_formed;
+      shut = subst (λ (x : Machine). IsShut x) (sym still.recovered) k.shut;
+      poked = still.poked ∙ k.poked;
+    }
+
+-- ---- a record that is no commit
+
+pub keeps-push : (o : Origin) (form form2 : Phase → Type 0) (S : IdealEnd → Type 0) (records : List Record) (x : Record)
+    (f : Contents) (w w2 : WorldState) → IsQuiet x → ((p : Phase) → form p → form2 (phase_after p x))
+    → w2.readings ≡ w.readings ++ read_in x → Powers o (records ++ x ∷ []) w2 → w.spent ≤ w2.spent → w2.period ≡ w.period
+    → Keeps o form S (now records f w) → Keeps o form2 S (now (records ++ x ∷ []) f w2)
+keeps-push o form form2 S records x f w w2 quiet goes reads power later period k =
+    let s = story_in o records in
+    let last : (story_in o (records ++ x ∷ [])).last ≡ s.last = ap (λ (v : Story). v.last) (story-more o records x k.added)
+    ∙ quiet-last s x quiet in
+    record {
+      added = adds-more o records x k.added;
+      form_is = subst form2 (sym (phase-more o (cycles_in o.records) records x k.added)) (goes _ k.form_is);
+      reads = reads ∙ ap (λ r. r ++ read_in x) k.reads ∙ append_assoc o.world.readings (reads_of (added_in o records)) (read_in x)
+          ∙ ap (λ r. o.world.readings ++ r) (sym (reads-more o records x k.added));
+      power = power;
+      commits = right-more o records x k.added k.commits (quiet-right o s x quiet);
+      number = ap (λ (p : Point). p.number) last ∙ k.number;
+      marks = ap (λ (p : Point). p.marks) last ∙ k.marks;
+      machine = λ start t. subst (λ (p : Point). Claim start p.readings p.instrs
+          (HasRecovered S o.world.period (words_of f.words))) (sym last) (k.machine start t);
+      instrs_later = subst (λ (p : Point). p.instrs + o.world.spent ≤ w2.spent) (sym last) (omega (arith, k.instrs_later));
+      marks_later = omega (arith, k.marks_later);
+      commits_later = omega (arith, k.commits_later);
+      period = period ∙ k.period;
+      well_formed = k.well_formed;
+      shut = k.shut;
+      poked = k.poked;
+    }
+
+pub keeps-any : (o : Origin) (form form2 : Phase → Type 0) (S : IdealEnd → Type 0) (a : Moment)
+    → ((p : Phase) → form p → form2 p) → Keeps o form S a → Keeps o form2 IsAny a
+keeps-any o form form2 S a goes k = record {
+  added = k.added;
+  form_is = goes _ k.form_is;
+  reads = k.reads;
+  power = k.power;
+  commits = k.commits;
+  number = k.number;
+  marks = k.marks;
+  machine = λ start s. claim-map start (story_in o a.records).last.readings (story_in o a.records).last.instrs
+      (HasRecovered S o.world.period (words_of a.fram.words)) (HasRecovered IsAny o.world.period (words_of a.fram.words))
+      (λ t h. has-any S o.world.period (words_of a.fram.words) t h) (k.machine start s);
+  instrs_later = k.instrs_later;
+  marks_later = k.marks_later;
+  commits_later = k.commits_later;
+  period = k.period;
+  well_formed = k.well_formed;
+  shut = k.shut;
+  poked = k.poked;
+}
+
+-- ---- readings
+
+pub keeps-reads : (o : Origin) (S : IdealEnd → Type 0) (records : List Record) (f : Contents) (w : WorldState) (rs : List Reading)
+    → Keeps o (IsInCycle o records) S (now records f w)
+    → Keeps o (IsInCycle o (records ++ read_records rs)) S
+    (now (records ++ read_records rs) f (record w { readings = w.readings ++ rs }))
+keeps-reads o S records f w [] k =
+    subst (λ (r : List Record). Keeps o (IsInCycle o r) S (now r f (record w { readings = w.readings ++ [] }))) (sym (append-nil records))
+    (subst (λ (r : List Reading). Keeps o (IsInCycle o records) S (now records f (record w { readings = r })))
+    (sym (append-nil w.readings)) k)
+keeps-reads o S records f w (r ∷ rs) k =
+    let p : Powers o (records ++ Read r ∷ []) (record w { readings = w.readings ++ r ∷ [] }) = record {
+      begun = k.power.begun;
+      spans = k.power.spans;
+      ticks = k.power.ticks;
+      cycles = k.power.cycles;
+      counted = cycles-more records (Read r) ∙ k.power.counted;
+    } in
+    let one : Keeps o (IsInCycle o (records ++ Read r ∷ [])) S
+    (now (records ++ Read r ∷ []) f (record w { readings = w.readings ++ r ∷ [] })) =
+    keeps-push o (IsInCycle o records) (IsInCycle o (records ++ Read r ∷ [])) S records (Read r) f w
+    (record w { readings = w.readings ++ r ∷ [] }) tt (λ q h. in_cycle-more o records (Read r) q refl (λ n. refl) h) refl p
+    (omega arith) refl k in
+    subst (λ (x : List Record). Keeps o (IsInCycle o x) S (now x f (record w { readings = w.readings ++ r ∷ rs })))
+    (append_assoc records (Read r ∷ []) (read_records rs))
+    (subst (λ (x : List Reading). Keeps o (IsInCycle o ((records ++ Read r ∷ []) ++ read_records rs)) S
+    (now ((records ++ Read r ∷ []) ++ read_records rs) f (record w { readings = x })))
+    (append_assoc w.readings (r ∷ []) rs)
+    (keeps-reads o S (records ++ Read r ∷ []) f (record w { readings = w.readings ++ r ∷ [] }) rs one))
+
+-- ---- a commit
+
+pub keeps-commit : (o : Origin) (S S2 : IdealEnd → Type 0) (records : List Record) (f f2 : Contents) (w w2 : WorldState)
+    (number marks i pc sp log : ℕ) → Keeps o (IsInCycle o records) S (now records f w) → Calm w w2
+    → cycles_in o.records < cycles_in records
+    → IsWellFormed (words_of f2.words) → f2.poked ≡ f.poked → IsShut (kept_in f2) → number ≡ commits_of (kept_in f) + 1
+    → commits_of (kept_in f2) ≡ number → marks_of (kept_in f2) ≡ marks
+    → marks + o.world.spent ≤ marks_of (kept_in o.fram) + w2.spent → number + o.world.spent ≤ commits_of (kept_in o.fram) + w2.spent
+    → i + o.world.spent ≤ w2.spent
+    → Always o (readings_so_far (story_in o records)) i
+    (λ t. HasRecovered S2 o.world.period (words_of f2.words) t × IsPrinted number marks pc sp t)
+    → Keeps o (IsInCycle o (records ++ Commit number marks i pc sp 155 log [] ∷ [])) S2
+    (now (records ++ Commit number marks i pc sp 155 log [] ∷ []) f2 w2)
+keeps-commit o S S2 records f f2 w w2 number marks i pc sp log k calm some formed poked shut next commits_are marks_are low high later is =
+    let x = Commit number marks i pc sp 155 log [] in
+    let s = story_in o records in
+    let told : story_in o (records ++ x ∷ []) ≡ after s x = story-more o records x k.added in
+    let p : Powers o records w2 = powers-calm o records w w2 some calm k.power in
+    record {
+      added = adds-more o records x k.added;
+      form_is = subst (IsInCycle o (records ++ x ∷ [])) (sym (phase-more o (cycles_in o.records) records x k.added))
+          (in_cycle-more o records x _ refl (λ n. refl) k.form_is);
+      reads = calm.readings ∙ k.reads
+          ∙ ap (λ r. o.world.readings ++ r) (sym (reads-more o records x k.added ∙ append-nil (reads_of (added_in o records))));
+      power = record {
+        begun = p.begun;
+        spans = p.spans;
+        ticks = p.ticks;
+        cycles = p.cycles;
+        counted = cycles-more records x ∙ p.counted;
+      };
+      commits = right-more o records x k.added k.commits (record {
+        number_is = next ∙ ap (λ n. n + 1) (sym k.number);
+        words_are = refl;
+        machine = λ start t. claim-map start (readings_so_far s) i
+            (λ u. HasRecovered S2 o.world.period (words_of f2.words) u × IsPrinted number marks pc sp u)
+            (IsPrinted number marks pc sp) (λ u h. h.1) (is start t);
+      });
+      number = ap (λ (v : Story). v.last.number) told ∙ sym commits_are;
+      marks = ap (λ (v : Story). v.last.marks) told ∙ sym marks_are;
+      machine = λ start t. subst (λ (v : Story). Claim start v.last.readings v.last.instrs
+          (HasRecovered S2 o.world.period (words_of f2.words))) (sym told)
+          (claim-map start (readings_so_far s) i
+          (λ u. HasRecovered S2 o.world.period (words_of f2.words) u × IsPrinted number marks pc sp u)
+          (HasRecovered S2 o.world.period (words_of f2.words)) (λ u h. h.0) (is start t));
+      instrs_later = subst (λ (v : Story). v.last.instrs + o.world.spent ≤ w2.spent) (sym told) later;
+      marks_later = subst (λ n. n + o.world.spent ≤ marks_of (kept_in o.fram) + w2.spent) (sym marks_are) low;
+      commits_later = subst (λ n. n + o.world.spent ≤ commits_of (kept_in o.fram) + w2.spent) (sym commits_are) high;
+      period = calm.period ∙ k.period;
+      well_formed = formed;
+      shut = shut;
+      poked = poked ∙ k.poked;
+    }

@@ -1,0 +1,424 @@
+-- A turn in which a service was called, served and recorded.
+use Rattle.std.proofs.Common.{◌≡◌, ℕ, ◌+◌, ◌*◌, ◌/◌, ◌%◌, ◌<◌, ◌≤◌, refl, sym, ap, ◌∙◌, subst, arith, Option, Some, None, List, [], ◌∷◌, ◌++◌, length, slice_index, append_assoc, append-nil, add-one, if◌then◌else◌}
+use Rattle.std.specs.Prelude.{fold}
+use Rattle.base16.specs.Memory.{words_of}
+use Rattle.base16.specs.declared.end.EndKind.{EndKind}
+use Rattle.base16.specs.declared.reading.Reading.{Reading}
+use Rattle.board_map.specs.Map.{count_of}
+use Rattle.board_map.specs.Recovered.{Machine, recovered}
+use Rattle.board_map.specs.declared.work.Work.{Work}
+use Rattle.core430.specs.Registers.{view_of}
+use Rattle.core430.specs.Shown.{AtMostOnePut}
+use Rattle.core430.specs.Step.{Service as Calls, step}
+use Rattle.fram.specs.Contents.{Contents}
+use Rattle.ideal430.specs.Agreement.{Agrees, Claim}
+use Rattle.ideal430.specs.Ideal.{Ideal, moved, served as served_by, next, with_more}
+use Rattle.ideal430.specs.Service.{taken_of}
+use Rattle.ideal430.specs.Uses.{UsesAfter}
+use Rattle.ideal430.specs.declared.state.IdealEnd.{IdealEnd}
+use Rattle.ideal430.specs.declared.state.IdealEnd.TheVariants.{Running, Ended}
+use Rattle.ideal430.proofs.Running.{next-running}
+use Rattle.ideal430.proofs.Runs.{claim-step}
+use Rattle.services.specs.Following.{StandsAt, Follows, Counts, CountsAlike}
+use Rattle.services.specs.Serving.{ask_found, IsClosed, IsReady, IsCommitted, OnCommit, OnPower, OnGoes, committed_in, Serves}
+use Rattle.services.specs.declared.acting.Committed.{Committed}
+use Rattle.services.specs.declared.serving.Served.{Served}
+use Rattle.services.specs.declared.serving.Served.TheVariants as served
+use Rattle.services.proofs.Counting.{counted}
+use Rattle.services.proofs.Fitting.{fits}
+use Rattle.services.proofs.Machines.{follows}
+use Rattle.world.specs.History.{Attempt, Story, taken_in, with_taken, after}
+use Rattle.world.specs.World.{WorldState, Spends}
+use Rattle.world.specs.declared.history.Record.{Record}
+use Rattle.world.specs.declared.history.Record.TheVariants.{Read, Commit}
+use Rattle.player.specs.Form.{cycles_in}
+use Rattle.player.specs.Playing.{Origin, marks_of, commits_of, kept_in, IsShut, story_in, HasRecovered, IsRunning, IsAny, Always, IsPrinted, readings_so_far, now, Keeps}
+use Rattle.player.specs.Turning.{IsInCycle, RestsWithin, OnGoing, HasCome, Goes, IsCut, Ends, Turned, turn_of, read_records, commit_records, instrs_after, IsServed}
+use Rattle.player.specs.declared.turning.Turn.{Turn}
+use Rattle.player.proofs.Records.{Adds, story-append, story-more}
+use Rattle.player.proofs.Keeping.{claim-map, IsStill, Calm, keeps-on, keeps-any, keeps-reads, keeps-commit}
+use Rattle.player.proofs.Moves.{gate, IsWritten, written, still-written, come-left, uses-running, arrives-call}
+use Rattle.player.proofs.Served.{IsStepped, IsAnswer, answers}
+
+-- ---- readings are recorded
+
+-- one story goes on to another by these readings
+pub record IsTold (s v : Story) (rs : List Reading) : Type 0 where
+  pub last : v.last ≡ s.last
+  pub going : OnGoing v.going (λ a. Unit {0})
+  pub readings : taken_in v.going ≡ taken_in s.going ++ rs
+
+going-taken : (g : Option Attempt) (r : Reading) → OnGoing g (λ a. Unit {0}) → OnGoing (with_taken r g) (λ a. Unit {0})
+going-taken None r h = h
+going-taken (Some a) r h = tt
+
+taken-more : (g : Option Attempt) (r : Reading) → OnGoing g (λ a. Unit {0}) → taken_in (with_taken r g) ≡ taken_in g ++ r ∷ []
+taken-more None r h = absurd h
+taken-more (Some a) r h = refl
+
+told-reads : (s : Story) (rs : List Reading) → OnGoing s.going (λ a. Unit {0}) → IsTold s (fold after s (read_records rs)) rs
+told-reads s [] h = record { last = refl; going = h; readings = sym (append-nil (taken_in s.going)) }
+told-reads s (r ∷ rs) h =
+    let n = told-reads (after s (Read r)) rs (going-taken s.going r h) in
+    record {
+      last = n.last;
+      going = n.going;
+      readings = n.readings ∙ ap (λ x. x ++ rs) (taken-more s.going r h) ∙ append_assoc (taken_in s.going) (r ∷ []) rs;
+    }
+
+pub told : (o : Origin) (records : List Record) (rs : List Reading) → Adds o records
+    → OnGoing (story_in o records).going (λ a. Unit {0}) → IsTold (story_in o records) (story_in o (records ++ read_records rs)) rs
+told o records rs adds h =
+    subst (λ (v : Story). IsTold (story_in o records) v rs) (sym (story-append o records (read_records rs) adds))
+    (told-reads (story_in o records) rs h)
+
+pub so_far : (s v : Story) (rs : List Reading) → IsTold s v rs → readings_so_far v ≡ readings_so_far s ++ rs
+so_far s v rs h =
+    ap (λ r. v.last.readings ++ r) h.readings ∙ ap (λ p. p.readings ++ (taken_in s.going ++ rs)) h.last
+    ∙ sym (append_assoc s.last.readings (taken_in s.going) rs)
+
+-- Ticks are spent in one power cycle, and these readings are given.
+pub record IsPassed (w w2 : WorldState) (rs : List Reading) : Type 0 where
+  pub later : w.spent ≤ w2.spent
+  pub whole : w2.spent + w2.left ≡ w.spent + w.left
+  pub spans : w2.spans ≡ w.spans
+  pub cycles : w2.cycles ≡ w.cycles
+  pub readings : w2.readings ≡ w.readings ++ rs
+  pub period : w2.period ≡ w.period
+
+pub keeps-passed : (o : Origin) (S : IdealEnd → Type 0) (records : List Record) (f f2 : Contents) (w w2 : WorldState)
+    (rs : List Reading) → IsStill f f2 → IsPassed w w2 rs → Keeps o (IsInCycle o records) S (now records f w)
+    → Keeps o (IsInCycle o (records ++ read_records rs)) S (now (records ++ read_records rs) f2 w2)
+keeps-passed o S records f f2 w w2 rs still p k =
+    let mid : WorldState = record w2 { readings = w.readings } in
+    let calm : Calm w mid = record {
+      later = p.later;
+      whole = p.whole;
+      spans = p.spans;
+      cycles = p.cycles;
+      readings = refl;
+      period = p.period;
+    } in
+    let on = keeps-on o (IsInCycle o records) S records f f2 w mid still calm k.form_is.1 k in
+    subst (λ r. Keeps o (IsInCycle o (records ++ read_records rs)) S
+    (now (records ++ read_records rs) f2 (record w2 { readings = r }))) (sym p.readings)
+    (keeps-reads o S records f2 mid rs on)
+
+-- ---- the machine's service
+
+-- the machine stands where the board does, and its run stands so
+pub record HasStood (end : IdealEnd) (registers : List ℕ) (work : Work) (m : ℕ → ℕ) (w : WorldState) (t : Ideal) : Type 0 where
+  pub status : t.status ≡ end
+  pub agrees : Agrees t (view_of registers) m work.segment None work.marks
+  pub counts : Counts t m work w
+
+pub stood-claim : (o : Origin) (n here : ℕ) (registers registers1 registers2 : List ℕ) (work work2 : Work)
+    (m m1 m2 : ℕ → ℕ) (w w1 w2 : WorldState) (readings : List Reading) (answer : Served) (end : IdealEnd)
+    → Always o readings here (HasCome registers work m w) → count_of m1 ≡ count_of m → Spends 1 w w1
+    → Calls n (record { regs = view_of registers1; memory = m1 })
+    ≡ step (gate work.segment) (record { regs = view_of registers; memory = m })
+    → (sv : Serves n registers1 m1 work w1 answer registers2 m2 work2 w2)
+    → ((t : Ideal) → Follows answer t [] registers2 m2 work2 → StandsAt t end [] registers2 m2 work2)
+    → ((P : Type 0) → OnPower answer P → P)
+    → Always o (readings ++ taken_of (ask_found n registers1 m1 work) sv.value) (here + 1) (HasStood end registers2 work2 m2 w2)
+stood-claim o n here registers registers1 registers2 work work2 m m1 m2 w w1 w2 readings answer end now_at count spends e sv stands power =
+    λ start s.
+    let rs = taken_of (ask_found n registers1 m1 work) sv.value in
+    subst (λ k. Claim start (readings ++ rs) k (HasStood end registers2 work2 m2 w2)) (sym (add-one here))
+    (claim-step start readings rs here (HasCome registers work m w) (HasStood end registers2 work2 m2 w2) (λ t h. h.runs)
+    (λ t left h uses.
+    let u = with_more t rs in
+    let come : HasCome registers work m w u = come-left t (t.left ++ rs) registers work m w h in
+    let a = arrives-call n u registers registers1 work m m1 w w1 come uses count spends e in
+    let v = moved u a.s in
+    let own : UsesAfter u (Calls n a.s) = subst (UsesAfter u) a.is (uses-running u come.runs uses).1 in
+    let taken : v.left ≡ rs ++ [] = ap (λ r. r ++ rs) left ∙ sym (append-nil rs) in
+    let at : StandsAt v Running (rs ++ []) registers1 m1 work =
+    record { agrees = a.come.agrees; left = taken; status = a.come.runs } in
+    let there = stands (served_by n v)
+    (follows n registers1 registers2 m1 m2 work work2 w1 w2 answer sv v [] at own) in
+    let alike : CountsAlike v (served_by n v) answer m2 work2 w2 =
+    power _ (counted n registers1 registers2 m1 m2 work work2 w1 w2 answer sv v [] at own a.come.counts) in
+    let is : next u ≡ served_by n v = next-running u (Calls n a.s) come.runs a.is in
+    subst (λ (x : Ideal). (x.left ≡ []) × HasStood end registers2 work2 m2 w2 x) (sym is)
+    (there.left, record { status = there.status; agrees = there.agrees; counts = alike.counts })) (now_at start s))
+
+-- ---- a commit
+
+marks-joined : (n : ℕ) → n % 65536 + 65536 * (n / 65536) ≡ n
+marks-joined n = omega arith
+
+pub committed-marks : (registers : List ℕ) (work : Work) (m : ℕ → ℕ) (w w2 : WorldState) → IsCommitted w w2 registers work m
+    → marks_of (recovered m) ≡ work.marks
+committed-marks registers work m w w2 c = ap marks_of c.is ∙ marks-joined work.marks
+
+pub committed-commits : (registers : List ℕ) (work : Work) (m : ℕ → ℕ) (w w2 : WorldState) → IsCommitted w w2 registers work m
+    → commits_of (recovered m) ≡ work.commits
+committed-commits registers work m w w2 c = ap commits_of c.is ∙ marks-joined work.commits
+
+pub committed-shut : (registers : List ℕ) (work : Work) (m : ℕ → ℕ) (w w2 : WorldState) → IsCommitted w w2 registers work m
+    → IsClosed work → IsShut (recovered m)
+committed-shut registers work m w w2 c h = record {
+  block = ap (λ (x : Machine). x.state 1) c.is ∙ ap (λ b. if b then 1 else 0) h.block;
+  length = ap (λ (x : Machine). x.state 2) c.is ∙ h.length;
+}
+
+-- where the machine has counted what the board has, which has just committed, it stands as behind a commit
+pub stood-printed : (S : IdealEnd → Type 0) (end : IdealEnd) (registers : List ℕ) (work : Work) (m : ℕ → ℕ) (w w1 w2 : WorldState)
+    (period : ℕ) (t : Ideal) → S end → IsCommitted w1 w2 registers work m → length registers ≡ 16 → work.since ≡ w2.spent
+    → work.block_length ≡ 0 → w2.period ≡ period → HasStood end registers work m w2 t
+    → HasRecovered S period m t × IsPrinted work.commits work.marks (slice_index registers 0) (slice_index registers 1) t
+stood-printed S end registers work m w w1 w2 period t standing c size since length_is same h =
+    let ticks : work.since + t.meter.ticks ≡ w2.spent = h.counts.ticks in
+    let none : t.meter.ticks ≡ 0 = omega arith in (
+      record {
+        fits = fits registers m work w1 w2 c size t h.agrees;
+        fresh = record {
+          ticks = none;
+          entries = h.counts.entries ∙ c.no_entries;
+          commits_are = h.counts.commits ∙ sym (committed-commits registers work m w1 w2 c);
+          length = h.counts.length ∙ length_is;
+          period_is = h.counts.period ∙ same;
+        };
+        stands = subst S (sym h.status) standing;
+      },
+      record {
+        due = none;
+        number_is = h.counts.commits;
+        marks_are = h.agrees.marks_are;
+        pc_is = ap (λ (r : ℕ → ℕ). r 0) h.agrees.regs_are;
+        sp_is = ap (λ (r : ℕ → ℕ). r 1) h.agrees.regs_are;
+      },
+    )
+
+-- ---- the whole turn
+
+come-stood : (registers : List ℕ) (work : Work) (m : ℕ → ℕ) (w : WorldState) (t : Ideal)
+    → HasStood Running registers work m w t → HasCome registers work m w t
+come-stood registers work m w t h = record { runs = h.status; agrees = h.agrees; counts = h.counts }
+
+-- Service n is called, served and recorded, so many instructions and its own after the program goes so.
+pub served-turned : (o : Origin) (instrs here n : ℕ) (registers registers1 registers2 : List ℕ) (work work2 : Work)
+    (records records2 : List Record) (f f1 f2 : Contents) (w w1 w2 : WorldState) (instrs2 : ℕ) (result : Turn)
+    → Goes o instrs here registers work (now records f w)
+    → AtMostOnePut (gate work.segment) (words_of f.words) (words_of f1.words) → f1.poked ≡ f.poked → Spends 1 w w1
+    → Calls n (record { regs = view_of registers1; memory = words_of f1.words })
+    ≡ step (gate work.segment) (record { regs = view_of registers; memory = words_of f.words })
+    → IsServed n (here + 1) registers1 work (now records f1 w1) instrs result registers2 work2 (now records2 f2 w2) instrs2
+    → Turned result o instrs2 (here + 1) registers2 work2 (now records2 f2 w2)
+served-turned o instrs here n registers registers1 registers2 work work2 records records2 f f1 f2 w w1 w2 instrs2 result g put poked spends e v =
+    subst (λ r. Turned r o instrs2 (here + 1) registers2 work2 (now records2 f2 w2)) (sym v.result_is)
+    (subst (λ i. Turned (turn_of v.answer) o i (here + 1) registers2 work2 (now records2 f2 w2)) (sym v.instrs_are)
+    (subst (λ r. Turned (turn_of v.answer) o (instrs_after (committed_in v.answer) instrs (here + 1)) (here + 1) registers2 work2
+    (now r f2 w2)) (sym v.records_are) (by v.answer refl)))
+  where
+    rs : List Reading
+    rs = taken_of (ask_found n registers1 (words_of f1.words) work) v.serves.value
+
+    behind : List Record
+    behind = records ++ read_records rs
+
+    k : Keeps o (IsInCycle o records) IsRunning (now records f w)
+    k = g.rests.keeps
+
+    is_written : IsWritten (words_of f.words) (words_of f1.words)
+    is_written = written work.segment (words_of f.words) (words_of f1.words) put k.well_formed g.ready.segment
+
+    still1 : IsStill f f1
+    still1 = still-written f f1 is_written poked
+
+    read_all : w2.readings ≡ w.readings ++ rs
+    read_all = v.serves.passes.readings ∙ ap (λ r. r ++ rs) spends.readings
+
+    passed : IsPassed w w2 rs
+    passed =
+        let a : w1.spent ≡ w.spent + 1 = spends.spent in
+        let b : w.left ≡ w1.left + 1 = spends.left in
+        record {
+          later = omega (arith, a, v.serves.passes.spent);
+          whole = omega (arith, a, b, v.serves.passes.spent, v.serves.passes.left);
+          spans = v.serves.passes.spans ∙ spends.spans;
+          cycles = v.serves.passes.cycles ∙ spends.cycles;
+          readings = read_all;
+          period = v.serves.passes.period ∙ spends.period;
+        }
+
+    -- the outside after the instruction, with the reading that the service takes
+    mid : WorldState
+    mid = record w1 { readings = w2.readings }
+
+    passed_mid : IsPassed w mid rs
+    passed_mid =
+        let a : w1.spent ≡ w.spent + 1 = spends.spent in
+        let b : w.left ≡ w1.left + 1 = spends.left in
+        record {
+          later = omega (arith, a);
+          whole = omega (arith, a, b);
+          spans = spends.spans;
+          cycles = spends.cycles;
+          readings = read_all;
+          period = spends.period;
+        }
+
+    calm_mid : Calm mid w2
+    calm_mid = record {
+      later = omega (arith, v.serves.passes.spent);
+      whole = omega (arith, v.serves.passes.spent, v.serves.passes.left);
+      spans = v.serves.passes.spans;
+      cycles = v.serves.passes.cycles;
+      readings = refl;
+      period = v.serves.passes.period;
+    }
+
+    answer : IsAnswer work work2 w2 v.answer
+    answer = answers n registers1 registers2 (words_of f1.words) (words_of f2.words) work work2 w1 w2 v.answer v.serves
+
+    told_here : IsTold (story_in o records) (story_in o behind) rs
+    told_here = told o records rs k.added g.going
+
+    -- without a commit the memory recovers as before
+    plain : committed_in v.answer ≡ None → IsStill f f2
+    plain c = record {
+      well_formed = v.serves.well_formed;
+      recovered = subst (λ x. OnCommit x (IsCommitted w1 w2 registers2 work2 (words_of f2.words))
+          (recovered (words_of f2.words) ≡ recovered (words_of f1.words))) c v.serves.recovers ∙ still1.recovered;
+      poked = v.poked ∙ poked;
+    }
+
+    keeps_plain : committed_in v.answer ≡ None → Keeps o (IsInCycle o behind) IsRunning (now behind f2 w2)
+    keeps_plain c = keeps-passed o IsRunning records f f2 w w2 rs (plain c) passed k
+
+    rests_plain : committed_in v.answer ≡ None → RestsWithin o instrs (now behind f2 w2)
+    rests_plain c = record { keeps = keeps_plain c; instrs_are = ap (λ p. p.instrs) told_here.last ∙ g.rests.instrs_are }
+
+    stood : (end : IdealEnd)
+        → ((t : Ideal) → Follows v.answer t [] registers2 (words_of f2.words) work2
+        → StandsAt t end [] registers2 (words_of f2.words) work2)
+        → ((P : Type 0) → OnPower v.answer P → P)
+        → Always o (readings_so_far (story_in o behind)) (here + 1) (HasStood end registers2 work2 (words_of f2.words) w2)
+    stood end stands power = λ start s.
+        subst (λ r. Claim start r (here + 1) (HasStood end registers2 work2 (words_of f2.words) w2))
+        (sym (so_far (story_in o records) (story_in o behind) rs told_here))
+        (stood-claim o n here registers registers1 registers2 work work2 (words_of f.words) (words_of f1.words)
+        (words_of f2.words) w w1 w2 (readings_so_far (story_in o records)) v.answer end g.machine is_written.count spends e
+        v.serves stands power start s)
+
+    -- where the machine went on, or where it ended so
+    stood_on : (c : Option Committed) → v.answer ≡ served.Done c
+        → Always o (readings_so_far (story_in o behind)) (here + 1) (HasStood Running registers2 work2 (words_of f2.words) w2)
+    stood_on c q = stood Running
+        (λ t h. subst (λ a. Follows a t [] registers2 (words_of f2.words) work2) q h) (λ P h. subst (λ a. OnPower a P) q h)
+
+    stood_over : (kind : EndKind) (c : Option Committed) → v.answer ≡ served.End kind c
+        → Always o (readings_so_far (story_in o behind)) (here + 1) (HasStood (Ended kind) registers2 work2 (words_of f2.words) w2)
+    stood_over kind c q = stood (Ended kind)
+        (λ t h. subst (λ a. Follows a t [] registers2 (words_of f2.words) work2) q h) (λ P h. subst (λ a. OnPower a P) q h)
+
+    later : here + 1 + o.world.spent ≤ w2.spent
+    later =
+        let a : w1.spent ≡ w.spent + 1 = spends.spent in
+        omega (arith, a, v.serves.passes.spent, g.here_later)
+
+    marks_later : (c : Option Committed) → IsStepped work work2 w2.spent c
+        → work2.marks + o.world.spent ≤ marks_of (kept_in o.fram) + w2.spent
+    marks_later c st =
+        let a : w1.spent ≡ w.spent + 1 = spends.spent in
+        omega (arith, a, v.serves.passes.spent, g.marks_later, st.marks)
+
+    closed : (c : Option Committed) → IsStepped work work2 w2.spent c → IsClosed work2
+    closed c st = record { block = st.block ∙ g.ready.closed.block; length = st.length_is ∙ g.ready.closed.length }
+
+    committed : (c : Committed) → committed_in v.answer ≡ Some c → IsCommitted w1 w2 registers2 work2 (words_of f2.words)
+    committed c q =
+        subst (λ x. OnCommit x (IsCommitted w1 w2 registers2 work2 (words_of f2.words))
+        (recovered (words_of f2.words) ≡ recovered (words_of f1.words))) q v.serves.recovers
+
+    keeps_committed : (S : IdealEnd → Type 0) (end : IdealEnd) (c : Committed) → S end → committed_in v.answer ≡ Some c
+        → IsStepped work work2 w2.spent (Some c)
+        → Always o (readings_so_far (story_in o behind)) (here + 1) (HasStood end registers2 work2 (words_of f2.words) w2)
+        → Keeps o (IsInCycle o (behind ++ commit_records (Some c) registers2 work2 (here + 1))) S
+        (now (behind ++ commit_records (Some c) registers2 work2 (here + 1)) f2 w2)
+    keeps_committed S end c standing q st claim =
+        let is = committed c q in
+        let number : work2.commits ≡ commits_of (kept_in f) + 1 = st.commits ∙ ap (λ x. x + 1) g.number in
+        let a : w1.spent ≡ w.spent + 1 = spends.spent in
+        let shut = closed (Some c) st in
+        subst (λ x. Keeps o (IsInCycle o (behind ++ Commit work2.commits work2.marks (here + 1) (slice_index registers2 0)
+        (slice_index registers2 1) x c.log [] ∷ [])) S
+        (now (behind ++ Commit work2.commits work2.marks (here + 1) (slice_index registers2 0) (slice_index registers2 1) x c.log
+        [] ∷ []) f2 w2)) (sym st.words)
+        (keeps-commit o IsRunning S behind f1 f2 mid w2 work2.commits work2.marks (here + 1) (slice_index registers2 0)
+        (slice_index registers2 1) c.log (keeps-passed o IsRunning records f f1 w mid rs still1 passed_mid k) calm_mid
+        (in_cycle k) v.serves.well_formed v.poked (committed-shut registers2 work2 (words_of f2.words) w1 w2 is shut)
+        (number ∙ ap (λ (x : Machine). commits_of x + 1) (sym still1.recovered))
+        (committed-commits registers2 work2 (words_of f2.words) w1 w2 is)
+        (committed-marks registers2 work2 (words_of f2.words) w1 w2 is) (marks_later (Some c) st)
+        (omega (arith, number, a, v.serves.passes.spent, k.commits_later)) later
+        (λ start s. claim-map start (readings_so_far (story_in o behind)) (here + 1)
+        (HasStood end registers2 work2 (words_of f2.words) w2)
+        (λ t. HasRecovered S o.world.period (words_of f2.words) t
+        × IsPrinted work2.commits work2.marks (slice_index registers2 0) (slice_index registers2 1) t)
+        (λ t h. stood-printed S end registers2 work2 (words_of f2.words) w w1 w2 o.world.period t standing is v.sixteen st.since
+        shut.length (passed.period ∙ k.period) h) (claim start s)))
+      where
+        in_cycle : Keeps o (IsInCycle o records) IsRunning (now records f w) → cycles_in o.records < cycles_in behind
+        in_cycle k = (keeps-passed o IsRunning records f f1 w mid rs still1 passed_mid k).form_is.1
+
+    by : (a : Served) → v.answer ≡ a
+        → Turned (turn_of a) o (instrs_after (committed_in a) instrs (here + 1)) (here + 1) registers2 work2
+        (now (behind ++ commit_records (committed_in a) registers2 work2 (here + 1)) f2 w2)
+    by served.Off q =
+        subst (λ r. IsCut o instrs (now r f2 w2)) (sym (append-nil behind))
+        (record { rests = rests_plain (ap committed_in q); none = answer.none q })
+    by (served.End kind None) q =
+        subst (λ r. Ends o kind (now r f2 w2)) (sym (append-nil behind)) (record {
+          keeps = keeps-any o (IsInCycle o behind) (IsInCycle o behind) IsRunning (now behind f2 w2) (λ p h. h)
+              (keeps_plain (ap committed_in q));
+          own = answer.own kind None q;
+        })
+    by (served.End kind (Some c)) q =
+        let st : IsStepped work work2 w2.spent (Some c) = subst (λ a. OnPower a (IsStepped work work2 w2.spent (committed_in a))) q
+        answer.stepped in
+        record {
+          keeps = keeps_committed IsAny (Ended kind) c tt (ap committed_in q) st (stood_over kind (Some c) q);
+          own = answer.own kind (Some c) q;
+        }
+    by (served.Done None) q =
+        let st : IsStepped work work2 w2.spent None = subst (λ a. OnPower a (IsStepped work work2 w2.spent (committed_in a))) q
+        answer.stepped in
+        let still = plain (ap committed_in q) in
+        let goes : Goes o instrs (here + 1) registers2 work2 (now behind f2 w2) = record {
+          rests = rests_plain (ap committed_in q);
+          going = told_here.going;
+          ready = subst (λ a. OnGoes a (IsReady (words_of f2.words) work2)) q v.serves.ready;
+          number = st.commits ∙ g.number ∙ sym (ap commits_of still.recovered);
+          marks_later = marks_later None st;
+          here_later = later;
+          machine = λ start s. claim-map start (readings_so_far (story_in o behind)) (here + 1)
+              (HasStood Running registers2 work2 (words_of f2.words) w2) (HasCome registers2 work2 (words_of f2.words) w2)
+              (come-stood registers2 work2 (words_of f2.words) w2) (stood_on None q start s);
+        } in
+        subst (λ r. Goes o instrs (here + 1) registers2 work2 (now r f2 w2)) (sym (append-nil behind)) goes
+    by (served.Done (Some c)) q =
+        let st : IsStepped work work2 w2.spent (Some c) = subst (λ a. OnPower a (IsStepped work work2 w2.spent (committed_in a))) q
+        answer.stepped in
+        let x = Commit work2.commits work2.marks (here + 1) (slice_index registers2 0) (slice_index registers2 1) c.words c.log [] in
+        let now_told : story_in o (behind ++ x ∷ []) ≡ after (story_in o behind) x =
+        story-more o behind x (keeps-passed o IsRunning records f f1 w mid rs still1 passed_mid k).added in
+        let so : readings_so_far (story_in o (behind ++ x ∷ [])) ≡ readings_so_far (story_in o behind) =
+        ap readings_so_far now_told ∙ append-nil (readings_so_far (story_in o behind)) in
+        record {
+          rests = record {
+            keeps = keeps_committed IsRunning Running c refl (ap committed_in q) st (stood_on (Some c) q);
+            instrs_are = ap (λ (s : Story). s.last.instrs) now_told;
+          };
+          going = subst (λ (s : Story). OnGoing s.going (λ a. Unit {0})) (sym now_told) tt;
+          ready = subst (λ a. OnGoes a (IsReady (words_of f2.words) work2)) q v.serves.ready;
+          number = sym (committed-commits registers2 work2 (words_of f2.words) w1 w2 (committed c (ap committed_in q)));
+          marks_later = marks_later (Some c) st;
+          here_later = later;
+          machine = λ start s. subst (λ r. Claim start r (here + 1) (HasCome registers2 work2 (words_of f2.words) w2)) (sym so)
+              (claim-map start (readings_so_far (story_in o behind)) (here + 1)
+              (HasStood Running registers2 work2 (words_of f2.words) w2) (HasCome registers2 work2 (words_of f2.words) w2)
+              (come-stood registers2 work2 (words_of f2.words) w2) (stood_on (Some c) q start s));
+        }
