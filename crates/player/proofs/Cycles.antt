@@ -63,6 +63,7 @@ begins o formed shut =
         commits = subst (AreRight o (beginning (first_point o))) (sym none) tt;
         number = ap (λ (s : Story). s.last.number) told;
         marks = ap (λ (s : Story). s.last.marks) told;
+        uncommitted = λ n. refl;
         machine = λ start s. subst (λ (v : Story). Claim start v.last.readings v.last.instrs
             (HasRecovered IsRunning o.world.period (words_of o.fram.words))) (sym told)
             (λ clean. (
@@ -142,7 +143,7 @@ woken o instrs number records records2 f w w2 r idle n k e =
     let done : Begins o instrs (now (records ++ On (number + 1) ∷ []) f w2) = record {
       rests = record {
         keeps = keeps-push o (IsBetweenCycles records) (IsInCycle o (records ++ On (number + 1) ∷ [])) IsRunning records
-            (On (number + 1)) f w w2 tt (λ p h. on-within o records p number n (omega arith) h)
+            (On (number + 1)) f w w2 tt tt (λ p h. on-within o records p number n (omega arith) h)
             (k.readings ∙ sym (append-nil w.readings)) (powers-woken o records (number + 1) w w2 r.keeps.power idle k) (omega arith)
             k.period r.keeps;
         instrs_are = ap (λ (s : Story). s.last.instrs) told ∙ r.instrs_are;
@@ -169,7 +170,7 @@ cut o instrs records records2 f w c e =
     let k = c.rests.keeps in
     let same : cycles_in (records ++ Off ∷ []) ≡ cycles_in records = cycles-more records Off in
     let done : RestsBetween o instrs (now (records ++ Off ∷ []) f w) = record {
-      keeps = keeps-push o (IsInCycle o records) (IsBetweenCycles (records ++ Off ∷ [])) IsRunning records Off f w w tt
+      keeps = keeps-push o (IsInCycle o records) (IsBetweenCycles (records ++ Off ∷ [])) IsRunning records Off f w w tt tt
           (λ p h. off-phase p (cycles_in records) h.0 ∙ ap Between (sym same)) (sym (append-nil w.readings))
           (powers-quiet o records Off w refl k.power) (omega arith) refl k;
       instrs_are = ap (λ (s : Story). s.last.instrs) (story-more o records Off k.added) ∙ c.rests.instrs_are;
@@ -180,7 +181,7 @@ pub over : (o : Origin) (kind : EndKind) (records records2 : List Record) (f : C
     → Ends o kind (now records f w) → records2 ≡ records ++ End kind ∷ [] → Keeps o (IsOver kind) IsAny (now records2 f w)
 over o kind records records2 f w h e =
     subst (λ x. Keeps o (IsOver kind) IsAny (now x f w)) (sym e)
-    (keeps-push o (IsInCycle o records) (IsOver kind) IsAny records (End kind) f w w tt
+    (keeps-push o (IsInCycle o records) (IsOver kind) IsAny records (End kind) f w w tt h.cause
     (λ p i. end-phase p (cycles_in records) kind i.0 h.own) (sym (append-nil w.readings))
     (powers-quiet o records (End kind) w refl h.keeps.power) (omega arith) refl h.keeps)
 
@@ -191,7 +192,7 @@ out_of_power o instrs records records2 f w w2 r e same =
     let k = keeps-any o (IsBetweenCycles records) (IsBetweenCycles records) IsRunning (now records f w) (λ p h. h) r.keeps in
     subst (λ v. Keeps o (IsOver Power) IsAny (now records2 f v)) (sym same)
     (subst (λ x. Keeps o (IsOver Power) IsAny (now x f w)) (sym e)
-    (keeps-push o (IsBetweenCycles records) (IsOver Power) IsAny records (End Power) f w w tt
+    (keeps-push o (IsBetweenCycles records) (IsOver Power) IsAny records (End Power) f w w tt tt
     (λ p h. ap (λ q. phase_after q (End Power)) h) (sym (append-nil w.readings))
     (powers-quiet o records (End Power) w refl k.power) (omega arith) refl k))
 

@@ -1,5 +1,5 @@
 -- What stays from moment to moment: time goes on, a record is added.
-use Rattle.std.proofs.Common.{◌≡◌, ℕ, ◌+◌, ◌*◌, ◌<◌, ◌≤◌, refl, sym, ap, ◌∙◌, subst, arith, None, List, [], ◌∷◌, ◌++◌, length, sum, append_assoc, append-nil}
+use Rattle.std.proofs.Common.{◌≡◌, ℕ, ◌+◌, ◌*◌, ◌<◌, ◌≤◌, refl, sym, ap, ◌∙◌, subst, arith, None, List, [], ◌∷◌, ◌++◌, length, sum, append_assoc, append-nil, length-append}
 use Rattle.base16.specs.Memory.{words_of}
 use Rattle.base16.specs.declared.reading.Reading.{Reading}
 use Rattle.board_map.specs.Recovered.{Machine, recovered}
@@ -13,9 +13,9 @@ use Rattle.world.specs.World.{WorldState, Spends}
 use Rattle.world.specs.declared.history.Record.{Record}
 use Rattle.world.specs.declared.history.Record.TheVariants.{Read, Commit}
 use Rattle.player.specs.Form.{Phase, phase_after, cycles_in, read_in, reads_of}
-use Rattle.player.specs.Playing.{Origin, marks_of, commits_of, kept_in, added_in, story_in, IsFresh, HasRecovered, IsAny, Always, left_of, Powers, IsShut, IsPrinted, readings_so_far, Moment, now, Keeps}
+use Rattle.player.specs.Playing.{Origin, marks_of, commits_of, kept_in, added_in, story_in, IsFresh, HasRecovered, IsAny, Always, left_of, Powers, IsShut, IsPrinted, IsRight, readings_so_far, Moment, now, Keeps}
 use Rattle.player.specs.Turning.{IsInCycle, read_records}
-use Rattle.player.proofs.Records.{cycles-more, in_cycle-more, adds-more, story-more, phase-more, reads-more, right-more, IsQuiet, quiet-last, quiet-right}
+use Rattle.player.proofs.Records.{cycles-more, in_cycle-more, adds-more, story-more, phase-more, reads-more, right-more, IsQuiet, quiet-last, quiet-earlier}
 
 -- ---- claims
 
@@ -103,6 +103,7 @@ keeps-on o form S records f f2 w w2 still calm some k =
       commits = k.commits;
       number = k.number ∙ sym (ap commits_of still.recovered);
       marks = k.marks ∙ sym (ap marks_of still.recovered);
+      uncommitted = λ n. still.recovered ∙ k.uncommitted n;
       machine = λ start s. claim-map start (story_in o records).last.readings (story_in o records).last.instrs
           (HasRecovered S o.world.period m) (HasRecovered S o.world.period m2)
           (λ t h. has-still S o.world.period m m2 t still.recovered h) (k.machine start s);
@@ -120,22 +121,26 @@ keeps-on o form S records f f2 w w2 still calm some k =
 -- ---- a record that is no commit
 
 pub keeps-push : (o : Origin) (form form2 : Phase → Type 0) (S : IdealEnd → Type 0) (records : List Record) (x : Record)
-    (f : Contents) (w w2 : WorldState) → IsQuiet x → ((p : Phase) → form p → form2 (phase_after p x))
+    (f : Contents) (w w2 : WorldState) → IsQuiet x → IsRight o (story_in o records) x
+    → ((p : Phase) → form p → form2 (phase_after p x))
     → w2.readings ≡ w.readings ++ read_in x → Powers o (records ++ x ∷ []) w2 → w.spent ≤ w2.spent → w2.period ≡ w.period
     → Keeps o form S (now records f w) → Keeps o form2 S (now (records ++ x ∷ []) f w2)
-keeps-push o form form2 S records x f w w2 quiet goes reads power later period k =
+keeps-push o form form2 S records x f w w2 quiet right goes reads power later period k =
     let s = story_in o records in
     let last : (story_in o (records ++ x ∷ [])).last ≡ s.last = ap (λ (v : Story). v.last) (story-more o records x k.added)
     ∙ quiet-last s x quiet in
+    let earlier : (story_in o (records ++ x ∷ [])).earlier ≡ s.earlier =
+    ap (λ (v : Story). v.earlier) (story-more o records x k.added) ∙ quiet-earlier s x quiet in
     record {
       added = adds-more o records x k.added;
       form_is = subst form2 (sym (phase-more o (cycles_in o.records) records x k.added)) (goes _ k.form_is);
       reads = reads ∙ ap (λ r. r ++ read_in x) k.reads ∙ append_assoc o.world.readings (reads_of (added_in o records)) (read_in x)
           ∙ ap (λ r. o.world.readings ++ r) (sym (reads-more o records x k.added));
       power = power;
-      commits = right-more o records x k.added k.commits (quiet-right o s x quiet);
+      commits = right-more o records x k.added k.commits right;
       number = ap (λ (p : Point). p.number) last ∙ k.number;
       marks = ap (λ (p : Point). p.marks) last ∙ k.marks;
+      uncommitted = λ n. k.uncommitted (sym (ap length earlier) ∙ n);
       machine = λ start t. subst (λ (p : Point). Claim start p.readings p.instrs
           (HasRecovered S o.world.period (words_of f.words))) (sym last) (k.machine start t);
       instrs_later = subst (λ (p : Point). p.instrs + o.world.spent ≤ w2.spent) (sym last) (omega (arith, k.instrs_later));
@@ -157,6 +162,7 @@ keeps-any o form form2 S a goes k = record {
   commits = k.commits;
   number = k.number;
   marks = k.marks;
+  uncommitted = k.uncommitted;
   machine = λ start s. claim-map start (story_in o a.records).last.readings (story_in o a.records).last.instrs
       (HasRecovered S o.world.period (words_of a.fram.words)) (HasRecovered IsAny o.world.period (words_of a.fram.words))
       (λ t h. has-any S o.world.period (words_of a.fram.words) t h) (k.machine start s);
@@ -190,7 +196,7 @@ keeps-reads o S records f w (r ∷ rs) k =
     let one : Keeps o (IsInCycle o (records ++ Read r ∷ [])) S
     (now (records ++ Read r ∷ []) f (record w { readings = w.readings ++ r ∷ [] })) =
     keeps-push o (IsInCycle o records) (IsInCycle o (records ++ Read r ∷ [])) S records (Read r) f w
-    (record w { readings = w.readings ++ r ∷ [] }) tt (λ q h. in_cycle-more o records (Read r) q refl (λ n. refl) h) refl p
+    (record w { readings = w.readings ++ r ∷ [] }) tt tt (λ q h. in_cycle-more o records (Read r) q refl (λ n. refl) h) refl p
     (omega arith) refl k in
     subst (λ (x : List Record). Keeps o (IsInCycle o x) S (now x f (record w { readings = w.readings ++ r ∷ rs })))
     (append_assoc records (Read r ∷ []) (read_records rs))
@@ -201,18 +207,23 @@ keeps-reads o S records f w (r ∷ rs) k =
 
 -- ---- a commit
 
+some-earlier : (earlier : List Point) (p : Point) → length (earlier ++ p ∷ []) ≡ 0 → ⊥
+some-earlier earlier p h =
+    let n : length (earlier ++ p ∷ []) ≡ length earlier + 1 = length-append earlier (p ∷ []) in
+    omega arith
+
 pub keeps-commit : (o : Origin) (S S2 : IdealEnd → Type 0) (records : List Record) (f f2 : Contents) (w w2 : WorldState)
     (number marks i pc sp log : ℕ) → Keeps o (IsInCycle o records) S (now records f w) → Calm w w2
     → cycles_in o.records < cycles_in records
     → IsWellFormed (words_of f2.words) → f2.poked ≡ f.poked → IsShut (kept_in f2) → number ≡ commits_of (kept_in f) + 1
     → commits_of (kept_in f2) ≡ number → marks_of (kept_in f2) ≡ marks
     → marks + o.world.spent ≤ marks_of (kept_in o.fram) + w2.spent → number + o.world.spent ≤ commits_of (kept_in o.fram) + w2.spent
-    → i + o.world.spent ≤ w2.spent
+    → i + o.world.spent ≤ w2.spent → log ≤ 256
     → Always o (readings_so_far (story_in o records)) i
     (λ t. HasRecovered S2 o.world.period (words_of f2.words) t × IsPrinted number marks pc sp t)
     → Keeps o (IsInCycle o (records ++ Commit number marks i pc sp 155 log [] ∷ [])) S2
     (now (records ++ Commit number marks i pc sp 155 log [] ∷ []) f2 w2)
-keeps-commit o S S2 records f f2 w w2 number marks i pc sp log k calm some formed poked shut next commits_are marks_are low high later is =
+keeps-commit o S S2 records f f2 w w2 number marks i pc sp log k calm some formed poked shut next commits_are marks_are low high later fits is =
     let x = Commit number marks i pc sp 155 log [] in
     let s = story_in o records in
     let told : story_in o (records ++ x ∷ []) ≡ after s x = story-more o records x k.added in
@@ -233,12 +244,14 @@ keeps-commit o S S2 records f f2 w w2 number marks i pc sp log k calm some forme
       commits = right-more o records x k.added k.commits (record {
         number_is = next ∙ ap (λ n. n + 1) (sym k.number);
         words_are = refl;
+        log_fits = fits;
         machine = λ start t. claim-map start (readings_so_far s) i
             (λ u. HasRecovered S2 o.world.period (words_of f2.words) u × IsPrinted number marks pc sp u)
             (IsPrinted number marks pc sp) (λ u h. h.1) (is start t);
       });
       number = ap (λ (v : Story). v.last.number) told ∙ sym commits_are;
       marks = ap (λ (v : Story). v.last.marks) told ∙ sym marks_are;
+      uncommitted = λ n. absurd (some-earlier s.earlier s.last (sym (ap (λ (v : Story). length v.earlier) told) ∙ n));
       machine = λ start t. subst (λ (v : Story). Claim start v.last.readings v.last.instrs
           (HasRecovered S2 o.world.period (words_of f2.words))) (sym told)
           (claim-map start (readings_so_far s) i

@@ -6,3 +6,4 @@ pub mod Served
 pub mod Turns
 pub mod Cycles
 pub mod Calls
+pub mod Starting

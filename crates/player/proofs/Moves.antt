@@ -22,8 +22,7 @@ use Rattle.ideal430.specs.declared.state.IdealEnd.TheVariants.{Running}
 use Rattle.ideal430.proofs.Along.{moved-along}
 use Rattle.ideal430.proofs.Running.{next-running}
 use Rattle.ideal430.proofs.Runs.{claim-step}
-use Rattle.base16.specs.declared.end.EndKind.{EndKind}
-use Rattle.player.specs.Form.{is_power}
+use Rattle.base16.specs.declared.end.EndKind.TheVariants.{Wild as WildAt}
 use Rattle.services.specs.Serving.{IsReady}
 use Rattle.world.specs.World.{WorldState, IsLawful, Spends}
 use Rattle.world.specs.declared.history.Record.{Record}
@@ -265,17 +264,18 @@ next-goes o instrs here registers registers2 work records f f2 w w2 g put poked 
 -- ---- an access that is refused ends the run
 
 pub wild-ends : (o : Origin) (instrs here : ℕ) (registers : List ℕ) (work : Work) (records : List Record) (f f2 : Contents)
-    (w w2 : WorldState) (kind : EndKind) → Goes o instrs here registers work (now records f w)
+    (w w2 : WorldState) (address : ℕ) → Goes o instrs here registers work (now records f w)
     → AtMostOnePut (gate work.segment) (words_of f.words) (words_of f2.words) → f2.poked ≡ f.poked → Spends 1 w w2
-    → is_power kind ≡ false → Ends o kind (now records f2 w2)
-wild-ends o instrs here registers work records f f2 w w2 kind g put poked spends own =
+    → Ends o (WildAt address) (now records f2 w2)
+wild-ends o instrs here registers work records f f2 w w2 address g put poked spends =
     let k = g.rests.keeps in
     let still = still-written f f2 (written work.segment (words_of f.words) (words_of f2.words) put k.well_formed g.ready.segment)
-    poked in
+        poked in
     record {
       keeps = keeps-any o (IsInCycle o records) (IsInCycle o records) IsRunning (now records f2 w2) (λ p h. h)
           (keeps-on o (IsInCycle o records) IsRunning records f f2 w w2 still (calm-spends 1 w w2 spends) k.form_is.1 k);
-      own = own;
+      own = refl;
+      cause = tt;
     }
 
 -- ---- an instruction that calls a service leaves the board ready for it

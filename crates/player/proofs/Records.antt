@@ -76,12 +76,12 @@ quiet-last s (Commit number marks instrs pc sp words log sets) h = absurd h
 quiet-last s Off h = refl
 quiet-last s (End kind) h = refl
 
-pub quiet-right : (o : Origin) (s : Story) (x : Record) → IsQuiet x → IsRight o s x
-quiet-right o s (On cycle) h = tt
-quiet-right o s (Read r) h = tt
-quiet-right o s (Commit number marks instrs pc sp words log sets) h = absurd h
-quiet-right o s Off h = tt
-quiet-right o s (End kind) h = tt
+pub quiet-earlier : (s : Story) (x : Record) → IsQuiet x → (after s x).earlier ≡ s.earlier
+quiet-earlier s (On cycle) h = refl
+quiet-earlier s (Read r) h = refl
+quiet-earlier s (Commit number marks instrs pc sp words log sets) h = absurd h
+quiet-earlier s Off h = refl
+quiet-earlier s (End kind) h = refl
 
 -- ---- the form
 

@@ -12,10 +12,12 @@ use Rattle.ideal430.specs.Costs.{effect_entries}
 use Rattle.ideal430.specs.Service.{Block, Effect, Deed, Refuses, Does, OnDoes, outputs_of, has_place, full_block, own_full, wild_of, refusal_or, refusal_of, popped, own_effect, service_at, deed_if, deed_if_built}
 use Rattle.ideal430.specs.declared.service.Service.{Service}
 use Rattle.ideal430.specs.declared.service.Service.TheVariants.{Halt, Enter, Leave, Turn, StoreWord, StoreByte, StampWord, StampByte, Sense, Emit, Open, Check, Close, Timely, Checkpoint}
+use Rattle.services.specs.Bounds.{IsShort}
 use Rattle.services.specs.Serving.{due_at, ticks_at, committed_of, work_after, deed_found, ended, answer_of, OnPower, OnCommit, OnRefused, committed_in, Effected, Serves}
 use Rattle.services.specs.declared.acting.Committed.{Committed}
 use Rattle.services.specs.declared.serving.Served.{Served}
 use Rattle.services.specs.declared.serving.Served.TheVariants as served
+use Rattle.services.proofs.Few.{deed-short}
 use Rattle.services.proofs.Machines.{power-in}
 use Rattle.world.specs.World.{WorldState}
 use Rattle.player.specs.Form.{is_power}
@@ -82,6 +84,7 @@ pub record IsStepped (work work2 : Work) (spent : ℕ) (c : Option Committed) : 
   pub commits : OnCommit c (work2.commits ≡ work.commits + 1) (work2.commits ≡ work.commits)
   pub since : OnCommit c (work2.since ≡ spent) (Unit {0})
   pub words : IfSome c (λ k. k.words ≡ 155)
+  pub log : IfSome c (λ k. k.log ≤ 256)
 
 pub record IsAnswer (work work2 : Work) (world2 : WorldState) (answer : Served) : Type 0 where
   pub stepped : OnPower answer (IsStepped work work2 world2.spent (committed_in answer))
@@ -111,7 +114,7 @@ refused-answer : (work work2 : Work) (world2 : WorldState) (kind : EndKind) → 
     → IsAnswer work work2 world2 (served.End kind None)
 refused-answer work work2 world2 kind own same = record {
   stepped = subst (λ (x : Work). IsStepped work x world2.spent None) (sym same)
-      (record { marks = omega arith; block = refl; length_is = refl; commits = refl; since = tt; words = tt });
+      (record { marks = omega arith; block = refl; length_is = refl; commits = refl; since = tt; words = tt; log = tt });
   own = λ k c e. ap is_power (same-kind kind k c None e) ∙ own;
   none = λ e. absurd (no-off kind None e);
 }
@@ -123,23 +126,25 @@ cut-answer work work2 world2 none = record {
   none = λ e. none;
 }
 
-stepped-by : (e : Effect) (due : Bool) (entries : ℕ) (work : Work) (spent : ℕ)
+stepped-by : (e : Effect) (due : Bool) (entries : ℕ) (work : Work) (spent : ℕ) → entries ≤ 256
     → IsStepped work (work_after e due spent work) spent (committed_of due entries)
-stepped-by e true entries work spent = record {
+stepped-by e true entries work spent fits = record {
   marks = if-mark e.marks work.marks;
   block = refl;
   length_is = refl;
   commits = refl;
   since = refl;
   words = refl;
+  log = fits;
 }
-stepped-by e false entries work spent = record {
+stepped-by e false entries work spent fits = record {
   marks = if-mark e.marks work.marks;
   block = refl;
   length_is = refl;
   commits = refl;
   since = tt;
   words = tt;
+  log = tt;
 }
 
 made-answer : (ends : Bool) (c : Option Committed) (work work2 : Work) (world2 : WorldState) → IsStepped work work2 world2.spent c
@@ -166,10 +171,10 @@ by-deed : (d : Deed) (registers registers2 : List ℕ) (m m2 : ℕ → ℕ) (wor
     → w.left ≡ w2.left + min w.left (ticks_at d work w (count_of m))
     → OnRefused d ((registers2 ≡ registers) × (m2 ≡ m) × (work2 ≡ work))
     → OnDoes d (λ e. OnPower answer (Effected e m work w (committed_in answer) registers2 m2 work2 w2))
-    → IsAnswer work work2 w2 answer
-by-deed (Refuses kind) registers registers2 m m2 work work2 w w2 answer own is left refused effect =
+    → OnDoes d (λ e. count_of m + effect_entries work.segment e ≤ 256) → IsAnswer work work2 w2 answer
+by-deed (Refuses kind) registers registers2 m m2 work work2 w w2 answer own is left refused effect short =
     subst (IsAnswer work work2 w2) (sym is) (refused-answer work work2 w2 kind own refused.2)
-by-deed (Does e) registers registers2 m m2 work work2 w w2 answer own is left refused effect =
+by-deed (Does e) registers registers2 m m2 work work2 w w2 answer own is left refused effect short =
     at (nat_lt w.left (ticks_at (Does e) work w (count_of m))) refl is
   where
     at : (b : Bool) → nat_lt w.left (ticks_at (Does e) work w (count_of m)) ≡ b
@@ -184,11 +189,19 @@ by-deed (Does e) registers registers2 m m2 work work2 w w2 answer own is left re
         let x : Effected e m work w (committed_in answer) registers2 m2 work2 w2 =
         power-in e.ends (committed_of due log) answer _ k effect in
         let h : IsStepped work work2 w2.spent (committed_of due log) =
-        subst (λ (y : Work). IsStepped work y w2.spent (committed_of due log)) (sym x.work_is) (stepped-by e due log work w2.spent) in
+        subst (λ (y : Work). IsStepped work y w2.spent (committed_of due log)) (sym x.work_is) (stepped-by e due log work w2.spent short) in
         subst (IsAnswer work work2 w2) (sym k) (made-answer e.ends (committed_of due log) work work2 w2 h)
 
+few-entries : (d : Deed) (segment count : ℕ) → count + 8 ≤ 256 → OnDoes d (λ e. IsShort segment e)
+    → OnDoes d (λ e. count + effect_entries segment e ≤ 256)
+few-entries (Refuses kind) segment count room h = tt
+few-entries (Does e) segment count room h = omega (arith, h.entries)
+
 pub answers : (n : ℕ) (registers registers2 : List ℕ) (m m2 : ℕ → ℕ) (work work2 : Work) (w w2 : WorldState) (answer : Served)
-    → Serves n registers m work w answer registers2 m2 work2 w2 → IsAnswer work work2 w2 answer
-answers n registers registers2 m m2 work work2 w w2 answer s =
+    → count_of m + 8 + work.block_length ≤ 256 → Serves n registers m work w answer registers2 m2 work2 w2
+    → IsAnswer work work2 w2 answer
+answers n registers registers2 m m2 work work2 w w2 answer room s =
     by-deed (deed_found n s.value registers m work) registers registers2 m m2 work work2 w w2 answer
     (deed-kind (service_at n) n s.value (view_of registers) m work.segment None) s.answers s.passes.left s.refused s.effect
+    (few-entries (deed_found n s.value registers m work) work.segment (count_of m) (omega arith)
+    (deed-short n s.value (view_of registers) m work.segment))

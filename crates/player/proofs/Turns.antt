@@ -3,6 +3,7 @@ use Rattle.std.proofs.Common.{◌≡◌, ℕ, ◌+◌, ◌*◌, ◌/◌, ◌%◌
 use Rattle.std.specs.Prelude.{fold}
 use Rattle.base16.specs.Memory.{words_of}
 use Rattle.base16.specs.declared.end.EndKind.{EndKind}
+use Rattle.base16.specs.declared.end.EndKind.TheVariants.{Done, Power, StackFull, BlockFull, OutputFull, Wild}
 use Rattle.base16.specs.declared.reading.Reading.{Reading}
 use Rattle.board_map.specs.Map.{count_of}
 use Rattle.board_map.specs.Recovered.{Machine, recovered}
@@ -32,7 +33,7 @@ use Rattle.world.specs.World.{WorldState, Spends}
 use Rattle.world.specs.declared.history.Record.{Record}
 use Rattle.world.specs.declared.history.Record.TheVariants.{Read, Commit}
 use Rattle.player.specs.Form.{cycles_in}
-use Rattle.player.specs.Playing.{Origin, marks_of, commits_of, kept_in, IsShut, story_in, HasRecovered, IsRunning, IsAny, Always, IsPrinted, readings_so_far, now, Keeps}
+use Rattle.player.specs.Playing.{Origin, marks_of, commits_of, kept_in, IsShut, story_in, HasRecovered, IsRunning, IsAny, Always, IsPrinted, readings_so_far, HasEnded, IsCause, now, Keeps}
 use Rattle.player.specs.Turning.{IsInCycle, RestsWithin, OnGoing, HasCome, Goes, IsCut, Ends, Turned, turn_of, read_records, commit_records, instrs_after, IsServed}
 use Rattle.player.specs.declared.turning.Turn.{Turn}
 use Rattle.player.proofs.Records.{Adds, story-append, story-more}
@@ -191,6 +192,16 @@ stood-printed S end registers work m w w1 w2 period t standing c size since leng
       },
     )
 
+-- ---- the end of a run
+
+cause : (o : Origin) (s : Story) (kind : EndKind) → HasEnded o s kind → IsCause o s kind
+cause o s Done h = h
+cause o s Power h = tt
+cause o s StackFull h = h
+cause o s BlockFull h = h
+cause o s OutputFull h = h
+cause o s (Wild address) h = tt
+
 -- ---- the whole turn
 
 come-stood : (registers : List ℕ) (work : Work) (m : ℕ → ℕ) (w : WorldState) (t : Ideal)
@@ -271,7 +282,8 @@ served-turned o instrs here n registers registers1 registers2 work work2 records
     }
 
     answer : IsAnswer work work2 w2 v.answer
-    answer = answers n registers1 registers2 (words_of f1.words) (words_of f2.words) work work2 w1 w2 v.answer v.serves
+    answer = answers n registers1 registers2 (words_of f1.words) (words_of f2.words) work work2 w1 w2 v.answer
+        (subst (λ x. x + 8 + work.block_length ≤ 256) (sym is_written.count) g.ready.room) v.serves
 
     told_here : IsTold (story_in o records) (story_in o behind) rs
     told_here = told o records rs k.added g.going
@@ -314,6 +326,22 @@ served-turned o instrs here n registers registers1 registers2 work work2 records
     stood_over kind c q = stood (Ended kind)
         (λ t h. subst (λ a. Follows a t [] registers2 (words_of f2.words) work2) q h) (λ P h. subst (λ a. OnPower a P) q h)
 
+    ended_over : (kind : EndKind) (c : Option Committed) → v.answer ≡ served.End kind c
+        → Always o (readings_so_far (story_in o behind)) (here + 1) (λ t. t.status ≡ Ended kind)
+    ended_over kind c q = λ start s. claim-map start (readings_so_far (story_in o behind)) (here + 1)
+        (HasStood (Ended kind) registers2 work2 (words_of f2.words) w2) (λ t. t.status ≡ Ended kind) (λ t h. h.status)
+        (stood_over kind c q start s)
+
+    -- the story with a commit, and its readings
+    now_told : (c : Committed) → story_in o (behind ++ commit_records (Some c) registers2 work2 (here + 1))
+        ≡ after (story_in o behind) (Commit work2.commits work2.marks (here + 1) (slice_index registers2 0)
+        (slice_index registers2 1) c.words c.log [])
+    now_told c = story-more o behind _ (keeps-passed o IsRunning records f f1 w mid rs still1 passed_mid k).added
+
+    so : (c : Committed) → readings_so_far (story_in o (behind ++ commit_records (Some c) registers2 work2 (here + 1)))
+        ≡ readings_so_far (story_in o behind)
+    so c = ap readings_so_far (now_told c) ∙ append-nil (readings_so_far (story_in o behind))
+
     later : here + 1 + o.world.spent ≤ w2.spent
     later =
         let a : w1.spent ≡ w.spent + 1 = spends.spent in
@@ -353,7 +381,7 @@ served-turned o instrs here n registers registers1 registers2 work work2 records
         (number ∙ ap (λ (x : Machine). commits_of x + 1) (sym still1.recovered))
         (committed-commits registers2 work2 (words_of f2.words) w1 w2 is)
         (committed-marks registers2 work2 (words_of f2.words) w1 w2 is) (marks_later (Some c) st)
-        (omega (arith, number, a, v.serves.passes.spent, k.commits_later)) later
+        (omega (arith, number, a, v.serves.passes.spent, k.commits_later)) later st.log
         (λ start s. claim-map start (readings_so_far (story_in o behind)) (here + 1)
         (HasStood end registers2 work2 (words_of f2.words) w2)
         (λ t. HasRecovered S o.world.period (words_of f2.words) t
@@ -375,6 +403,7 @@ served-turned o instrs here n registers registers1 registers2 work work2 records
           keeps = keeps-any o (IsInCycle o behind) (IsInCycle o behind) IsRunning (now behind f2 w2) (λ p h. h)
               (keeps_plain (ap committed_in q));
           own = answer.own kind None q;
+          cause = cause o (story_in o behind) kind (record { instrs = here + 1; ended = ended_over kind None q });
         })
     by (served.End kind (Some c)) q =
         let st : IsStepped work work2 w2.spent (Some c) = subst (λ a. OnPower a (IsStepped work work2 w2.spent (committed_in a))) q
@@ -382,6 +411,11 @@ served-turned o instrs here n registers registers1 registers2 work work2 records
         record {
           keeps = keeps_committed IsAny (Ended kind) c tt (ap committed_in q) st (stood_over kind (Some c) q);
           own = answer.own kind (Some c) q;
+          cause = cause o (story_in o (behind ++ commit_records (Some c) registers2 work2 (here + 1))) kind (record {
+            instrs = here + 1;
+            ended = λ start s. subst (λ r. Claim start r (here + 1) (λ t. t.status ≡ Ended kind)) (sym (so c))
+                (ended_over kind (Some c) q start s);
+          });
         }
     by (served.Done None) q =
         let st : IsStepped work work2 w2.spent None = subst (λ a. OnPower a (IsStepped work work2 w2.spent (committed_in a))) q
@@ -402,22 +436,17 @@ served-turned o instrs here n registers registers1 registers2 work work2 records
     by (served.Done (Some c)) q =
         let st : IsStepped work work2 w2.spent (Some c) = subst (λ a. OnPower a (IsStepped work work2 w2.spent (committed_in a))) q
         answer.stepped in
-        let x = Commit work2.commits work2.marks (here + 1) (slice_index registers2 0) (slice_index registers2 1) c.words c.log [] in
-        let now_told : story_in o (behind ++ x ∷ []) ≡ after (story_in o behind) x =
-        story-more o behind x (keeps-passed o IsRunning records f f1 w mid rs still1 passed_mid k).added in
-        let so : readings_so_far (story_in o (behind ++ x ∷ [])) ≡ readings_so_far (story_in o behind) =
-        ap readings_so_far now_told ∙ append-nil (readings_so_far (story_in o behind)) in
         record {
           rests = record {
             keeps = keeps_committed IsRunning Running c refl (ap committed_in q) st (stood_on (Some c) q);
-            instrs_are = ap (λ (s : Story). s.last.instrs) now_told;
+            instrs_are = ap (λ (s : Story). s.last.instrs) (now_told c);
           };
-          going = subst (λ (s : Story). OnGoing s.going (λ a. Unit {0})) (sym now_told) tt;
+          going = subst (λ (s : Story). OnGoing s.going (λ a. Unit {0})) (sym (now_told c)) tt;
           ready = subst (λ a. OnGoes a (IsReady (words_of f2.words) work2)) q v.serves.ready;
           number = sym (committed-commits registers2 work2 (words_of f2.words) w1 w2 (committed c (ap committed_in q)));
           marks_later = marks_later (Some c) st;
           here_later = later;
-          machine = λ start s. subst (λ r. Claim start r (here + 1) (HasCome registers2 work2 (words_of f2.words) w2)) (sym so)
+          machine = λ start s. subst (λ r. Claim start r (here + 1) (HasCome registers2 work2 (words_of f2.words) w2)) (sym (so c))
               (claim-map start (readings_so_far (story_in o behind)) (here + 1)
               (HasStood Running registers2 work2 (words_of f2.words) w2) (HasCome registers2 work2 (words_of f2.words) w2)
               (come-stood registers2 work2 (words_of f2.words) w2) (stood_on (Some c) q start s));

@@ -1,14 +1,17 @@
 -- The playing of a board through power cycles: what holds of its memory, of the outside and of the history at each moment.
 use Rattle.std.specs.Prelude.{◌≡◌, ℕ, ◌+◌, ◌*◌, ◌<◌, ◌≤◌, ◌^◌, List, [], ◌∷◌, ◌++◌, length, drop, sum, None}
 use Rattle.base16.specs.Memory.{words_of}
+use Rattle.base16.specs.declared.end.EndKind.{EndKind}
+use Rattle.base16.specs.declared.end.EndKind.TheVariants.{Done, Power, StackFull, BlockFull, OutputFull, Wild}
 use Rattle.base16.specs.declared.reading.Reading.{Reading}
 use Rattle.board_map.specs.Recovered.{Machine, recovered}
 use Rattle.board_map.specs.WellFormed.{IsWellFormed}
 use Rattle.fram.specs.Contents.{Contents}
 use Rattle.ideal430.specs.Agreement.{Claim}
 use Rattle.ideal430.specs.Ideal.{Meter, Ideal}
+use Rattle.ideal430.specs.Loaded.{start_of}
 use Rattle.ideal430.specs.declared.state.IdealEnd.{IdealEnd}
-use Rattle.ideal430.specs.declared.state.IdealEnd.TheVariants.{Running}
+use Rattle.ideal430.specs.declared.state.IdealEnd.TheVariants.{Running, Ended}
 use Rattle.services.specs.Following.{Fits}
 use Rattle.world.specs.History.{Display, Point, Story, beginning, taken_in, after, story}
 use Rattle.world.specs.World.{WorldState}
@@ -93,6 +96,12 @@ pub record Starts (start : Ideal) (o : Origin) : Type 0 where
   pub left : start.left ≡ []
   pub at : HasRecovered IsRunning o.world.period (words_of o.fram.words) start
 
+-- the machine of a loaded image, whose meter counts by this period
+abbrev pub started : (m : ℕ → ℕ) → (period : ℕ) → Ideal
+started m period = record (start_of m []) {
+  meter = record { ticks = 0; entries = 0; commits = 0; length = 0; period = period };
+}
+
 -- a claim for each machine from which the playing may have begun
 abbrev pub Always : Origin → List Reading → (instrs : ℕ) → (Ideal → Type 0) → Type 0
 Always o readings instrs Q = (start : Ideal) → Starts start o → Claim start readings instrs Q
@@ -111,21 +120,37 @@ pub record IsPrinted (number marks pc sp : ℕ) (t : Ideal) : Type 0 where
 abbrev pub readings_so_far : Story → List Reading
 readings_so_far s = s.last.readings ++ taken_in s.going
 
--- A commit has the number after the last one's, wrote 155 words, and prints where the machine is on the committed readings
--- after the printed instructions.
-pub record IsCommit (o : Origin) (s : Story) (number marks instrs pc sp words : ℕ) : Type 0 where
+-- A commit has the number after the last one's, wrote 155 words, found at most 256 entries of the undo log, and prints where
+-- the machine is on the committed readings after the printed instructions.
+pub record IsCommit (o : Origin) (s : Story) (number marks instrs pc sp words log : ℕ) : Type 0 where
   pub number_is : number ≡ s.last.number + 1
   pub words_are : words ≡ 155
+  pub log_fits : log ≤ 256
   pub machine : Always o (readings_so_far s) instrs (IsPrinted number marks pc sp)
+
+-- the machine ended so on the readings so far
+pub record HasEnded (o : Origin) (s : Story) (kind : EndKind) : Type 0 where
+  pub instrs : ℕ
+  pub ended : Always o (readings_so_far s) instrs (λ t. t.status ≡ Ended kind)
+
+-- A run ended as the machine did. Nothing is said of want of power, nor of an access that the board refuses: the write gate
+-- refuses more than the machine does.
+abbrev pub IsCause : Origin → Story → EndKind → Type 0
+IsCause o s Done = HasEnded o s Done
+IsCause o s Power = Unit {0}
+IsCause o s StackFull = HasEnded o s StackFull
+IsCause o s BlockFull = HasEnded o s BlockFull
+IsCause o s OutputFull = HasEnded o s OutputFull
+IsCause o s (Wild address) = Unit {0}
 
 abbrev pub IsRight : Origin → Story → Record → Type 0
 IsRight o s (On cycle) = Unit {0}
 IsRight o s (Read r) = Unit {0}
-IsRight o s (Commit number marks instrs pc sp words log sets) = IsCommit o s number marks instrs pc sp words
+IsRight o s (Commit number marks instrs pc sp words log sets) = IsCommit o s number marks instrs pc sp words log
 IsRight o s Off = Unit {0}
-IsRight o s (End kind) = Unit {0}
+IsRight o s (End kind) = IsCause o s kind
 
--- each commit of these records is, behind this story
+-- each commit and the end of these records are, behind this story
 abbrev pub AreRight : Origin → Story → List Record → Type 0
 AreRight o s [] = Unit {0}
 AreRight o s (r ∷ rest) = IsRight o s r × AreRight o (after s r) rest
@@ -168,6 +193,8 @@ pub record Keeps (o : Origin) (form : Phase → Type 0) (standing : IdealEnd →
   pub commits : AreRight o (beginning (first_point o)) (added_in o a.records)
   pub number : (story_in o a.records).last.number ≡ commits_of (kept_in a.fram)
   pub marks : (story_in o a.records).last.marks ≡ marks_of (kept_in a.fram)
+  -- without a commit the memory recovers to what it did as the playing began
+  pub uncommitted : length (story_in o a.records).earlier ≡ 0 → kept_in a.fram ≡ kept_in o.fram
   pub machine : Always o (story_in o a.records).last.readings (story_in o a.records).last.instrs
       (HasRecovered standing o.world.period (words_of a.fram.words))
   -- each instruction and each commit took a tick at least, and so did each mark

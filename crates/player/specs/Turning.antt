@@ -10,7 +10,7 @@ use Rattle.ideal430.specs.Ideal.{Ideal}
 use Rattle.ideal430.specs.Service.{taken_of}
 use Rattle.ideal430.specs.declared.state.IdealEnd.TheVariants.{Running}
 use Rattle.player.specs.Form.{Phase, Between, Within, is_power, cycles_in}
-use Rattle.player.specs.Playing.{Origin, marks_of, commits_of, kept_in, story_in, IsRunning, IsAny, Always, readings_so_far, Moment, Keeps}
+use Rattle.player.specs.Playing.{Origin, marks_of, commits_of, kept_in, story_in, IsRunning, IsAny, IsCause, Always, readings_so_far, Moment, Keeps}
 use Rattle.player.specs.declared.turning.Turn.{Turn}
 use Rattle.player.specs.declared.turning.Turn.TheVariants as turn
 use Rattle.services.specs.Following.{Counts}
@@ -84,6 +84,7 @@ pub record IsCut (o : Origin) (instrs : ℕ) (a : Moment) : Type 0 where
 pub record Ends (o : Origin) (kind : EndKind) (a : Moment) : Type 0 where
   pub keeps : Keeps o (IsInCycle o a.records) IsAny a
   pub own : is_power kind ≡ false
+  pub cause : IsCause o (story_in o a.records) kind
 
 -- what a turn came to
 abbrev pub Turned : Turn → Origin → (instrs here : ℕ) (registers : List ℕ) → Work → Moment → Type 0

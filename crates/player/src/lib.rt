@@ -3,8 +3,12 @@
 #![tactic(auto)]
 
 mod cycling;
+mod laws;
+mod playable;
 mod playing;
 mod recording;
 mod turning;
 
+pub use laws::a_loaded_board_starts;
+pub use playable::is_playable;
 pub use playing::play;

@@ -1,6 +1,5 @@
 -- One instruction, with the service that it calls, leads from where the program goes to where the turn says.
 use Rattle.std.proofs.Common.{◌≡◌, false, Result, Ok, Err, OnOk, is_err, sym, subst, refl}
-use Rattle.base16.specs.declared.end.EndKind.TheVariants.{Wild}
 use Rattle.world.specs.World.{Spends}
 use Rattle.player.specs.Playing.{now}
 use Rattle.player.specs.Turning.{Goes}
@@ -35,8 +34,8 @@ returns-in-Wild-clause-after g c =
     subst (λ x. Goes g.origin c.args.instrs.now c.args.here.now c.args.regs.now.r c.args.work.now (now x c.args.fram.now w))
     (sym c.reserve.ensures.items) c.requires.1.0 in
     wild-ends g.origin c.args.instrs.now c.args.here.now c.args.regs.now.r c.args.work.now c.reserve.new.self.items
-    c.args.fram.now c.instruction.new.fram w w2 (Wild c.in-Wild.address) goes c.instruction.ensures.one_put
-    c.instruction.ensures.poked spends refl
+    c.args.fram.now c.instruction.new.fram w w2 c.in-Wild.address goes c.instruction.ensures.one_put
+    c.instruction.ensures.poked spends
 
 pub called-requires-clause-well_formed : goal.called-requires-clause-well_formed
 called-requires-clause-well_formed g c =
