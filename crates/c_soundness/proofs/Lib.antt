@@ -1,0 +1,14 @@
+pub mod Triples
+pub mod Operators
+pub mod Types
+pub mod Cells
+pub mod Actions
+pub mod Numbers
+pub mod Expressions
+pub mod Statements
+pub mod Layouts
+pub mod Frames
+pub mod Calls
+pub mod Programs
+pub mod Lawful
+pub mod Examples
