@@ -1,0 +1,4 @@
+pub mod Display
+pub mod Index
+pub mod Log
+pub mod Sets
