@@ -270,7 +270,7 @@ pub wild-ends : (o : Origin) (instrs here : ℕ) (registers : List ℕ) (work : 
 wild-ends o instrs here registers work records f f2 w w2 address g put poked spends =
     let k = g.rests.keeps in
     let still = still-written f f2 (written work.segment (words_of f.words) (words_of f2.words) put k.well_formed g.ready.segment)
-        poked in
+    poked in
     record {
       keeps = keeps-any o (IsInCycle o records) (IsInCycle o records) IsRunning (now records f2 w2) (λ p h. h)
           (keeps-on o (IsInCycle o records) IsRunning records f f2 w w2 still (calm-spends 1 w w2 spends) k.form_is.1 k);
