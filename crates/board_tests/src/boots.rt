@@ -1,4 +1,4 @@
-use crate::support::{START, difference, memory, set, world_with};
+use crate::support::{Board, START, difference, memory, set, world_with};
 use base16::Regs;
 use board_map::{SEGMENT_AT, Work, gate, recovered_word, slot_word, undo_entry, well_formed};
 use boot::boot;
@@ -128,37 +128,51 @@ const PLACES: [(u16, u16); 8] = [
     (0x4002, 6),
 ];
 
+/// The memory before a boot, the one after its first writes, one a tick, and a world with so many ticks left.
+fn board_with<R: Abort + AllocGlobal>(rt: &R, ticks: u32) -> Result<Board, Fail> {
+    let fram = standing(rt)?;
+    let expected = after(rt, ticks)?;
+    let world = world_with(rt, ticks)?;
+    Ok(Board {
+        fram,
+        expected,
+        world,
+    })
+}
+
+/// A boot that is cut after so many ticks is followed by one that leaves the same memory as one that was not cut.
+fn boots_twice<R: Abort + AllocGlobal>(rt: &R, ticks: u32, restored: &Fram) -> Result<(), Fail> {
+    let mut board = board_with(rt, ticks)?;
+    let booted = boots(rt, &mut board.fram, &mut board.world);
+    assert_eq!(rt; booted.is_ok(), ticks == 132, "with {ticks}");
+    assert_eq!(rt;
+        difference(&board.fram, &board.expected),
+        None,
+        "with {ticks}"
+    );
+    assert!(rt; well_formed(&board.fram));
+    for (address, word) in PLACES {
+        assert_eq!(rt;
+            recovered_word(&board.fram, address),
+            word,
+            "at {address} with {ticks}"
+        );
+    }
+    assert!(rt; board.world.wake());
+    assert!(rt; boots(rt, &mut board.fram, &mut board.world).is_ok());
+    assert_eq!(rt;
+        difference(&board.fram, restored),
+        None,
+        "after a cut at {ticks}"
+    );
+    Ok(())
+}
+
 #[test]
 fn a_boot_cut_at_every_tick_begins_again(rt: HostRuntime) -> Result<(), Fail> {
     let restored = after(&rt, 132)?;
     for ticks in 0..133u32 {
-        let mut fram = standing(&rt)?;
-        let mut world = world_with(&rt, ticks)?;
-        assert_eq!(rt;
-            boots(&rt, &mut fram, &mut world).is_ok(),
-            ticks == 132,
-            "with {ticks}"
-        );
-        assert_eq!(rt;
-            difference(&fram, &after(&rt, ticks)?),
-            None,
-            "with {ticks}"
-        );
-        assert!(rt; well_formed(&fram));
-        for (address, word) in PLACES {
-            assert_eq!(rt;
-                recovered_word(&fram, address),
-                word,
-                "at {address} with {ticks}"
-            );
-        }
-        assert!(rt; world.wake());
-        assert!(rt; boots(&rt, &mut fram, &mut world).is_ok());
-        assert_eq!(rt;
-            difference(&fram, &restored),
-            None,
-            "after a cut at {ticks}"
-        );
+        boots_twice(&rt, ticks, &restored)?;
     }
     Ok(())
 }

@@ -1,6 +1,6 @@
 ghost use Rattle.std.specs.Prelude.{◌≡◌, ◌^◌, ◌-◌, ◌<◌, ◌≤◌};
 
-use crate::support::{START, difference, memory, set, world_with};
+use crate::support::{Board, START, difference, memory, set, world_with};
 use base16::{Regs, Words};
 use board_map::{Work, block_entry, is_loggable, recovered_word, slot_word, well_formed};
 use ckpt::commit;
@@ -140,17 +140,28 @@ fn after<R: Abort + AllocGlobal>(rt: &R, writes: usize) -> Result<Fram, Fail> {
     Ok(fram)
 }
 
+/// The memory before a commit, the one after its first writes, one a tick, and a world with so many ticks left.
+fn board_with<R: Abort + AllocGlobal>(rt: &R, ticks: usize) -> Result<Board, Fail> {
+    assert!(rt; ticks <= 155);
+    let fram = after(rt, 0)?;
+    let expected = after(rt, ticks)?;
+    let world = world_with(rt, ticks as u32)?;
+    Ok(Board {
+        fram,
+        expected,
+        world,
+    })
+}
+
 #[test]
 fn a_commit_cut_at_every_tick_leaves_one_of_two_states(rt: HostRuntime) -> Result<(), Fail> {
     for ticks in 0..156usize {
-        let mut fram = after(&rt, 0)?;
-        let expected = after(&rt, ticks)?;
-        let mut world = world_with(&rt, ticks as u32)?;
+        let mut board = board_with(&rt, ticks)?;
         let mut work = WORK;
         let result = commits(
             &rt,
-            &mut fram,
-            &mut world,
+            &mut board.fram,
+            &mut board.world,
             &Regs { r: REGISTERS },
             &mut work,
         );
@@ -163,12 +174,16 @@ fn a_commit_cut_at_every_tick_leaves_one_of_two_states(rt: HostRuntime) -> Resul
                 [0x1ffff, 0]
             }
         );
-        assert_eq!(rt; difference(&fram, &expected), None, "with {ticks}");
-        assert!(rt; well_formed(&fram));
+        assert_eq!(rt;
+            difference(&board.fram, &board.expected),
+            None,
+            "with {ticks}"
+        );
+        assert!(rt; well_formed(&board.fram));
         for (address, before, behind) in PLACES {
             let word = if ticks == 155 { behind } else { before };
             assert_eq!(rt;
-                recovered_word(&fram, address),
+                recovered_word(&board.fram, address),
                 word,
                 "at {address} with {ticks}"
             );

@@ -6,9 +6,13 @@ mod boots;
 #[cfg(test)]
 mod checkpoints;
 #[cfg(test)]
+mod cuts;
+#[cfg(test)]
 mod maps;
 #[cfg(test)]
 mod memory;
+#[cfg(test)]
+mod refusals;
 #[cfg(test)]
 mod serving;
 #[cfg(test)]

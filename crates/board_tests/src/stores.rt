@@ -3,7 +3,7 @@ ghost use Rattle.base16.specs.Memory.{words_of};
 ghost use Rattle.board_map.specs.Map.{count_of, segment_of};
 ghost use Rattle.board_map.specs.WellFormed.{IsWellFormed};
 
-use crate::support::{START, difference, memory, set, world_with};
+use crate::support::{START, board_of, difference};
 use board_map::{
     SEGMENT_AT, Work, count, gate, is_loggable, recovered_word, slot_word, well_formed,
 };
@@ -75,24 +75,29 @@ const TWO_STORES: [(u16, u16); 8] = [
 #[test]
 fn stores_cut_at_every_tick_made_the_writes_before(rt: HostRuntime) -> Result<(), Fail> {
     for ticks in 0..9usize {
-        let mut fram = memory(&rt, &START)?;
-        fram.poke(0x4000, 9);
-        let mut expected = memory(&rt, &START)?;
-        expected.poke(0x4000, 9);
-        set(&rt, &mut expected, &TWO_STORES[..ticks]);
-        let mut world = world_with(&rt, ticks as u32)?;
-        let first = stores(&rt, &mut fram, &mut world, 2);
-        let second = stores(&rt, &mut fram, &mut world, 3);
+        let mut board = board_of(
+            &rt,
+            &START,
+            &[(0x4000, 9)],
+            &TWO_STORES[..ticks],
+            ticks as u32,
+        )?;
+        let first = stores(&rt, &mut board.fram, &mut board.world, 2);
+        let second = stores(&rt, &mut board.fram, &mut board.world, 3);
         assert_eq!(rt;
             [first.is_ok(), second.is_ok()],
             [ticks >= 4, ticks == 8],
             "{ticks} ticks"
         );
-        assert_eq!(rt; difference(&fram, &expected), None, "{ticks} ticks");
-        assert_eq!(rt; recovers(&rt, &fram, 0x4000), 9, "{ticks} ticks");
-        world.wake();
-        assert!(rt; rolls_back(&rt, &mut fram, &mut world).is_ok());
-        assert_eq!(rt; fram.get(0x4000), 9, "{ticks} ticks");
+        assert_eq!(rt;
+            difference(&board.fram, &board.expected),
+            None,
+            "{ticks} ticks"
+        );
+        assert_eq!(rt; recovers(&rt, &board.fram, 0x4000), 9, "{ticks} ticks");
+        board.world.wake();
+        assert!(rt; rolls_back(&rt, &mut board.fram, &mut board.world).is_ok());
+        assert_eq!(rt; board.fram.get(0x4000), 9, "{ticks} ticks");
     }
     Ok(())
 }
@@ -114,21 +119,17 @@ fn puts_outside_the_working_segment_are_logged(rt: HostRuntime) -> Result<(), Fa
     ];
     let standing = [(0x1220, 1), (0x20fe, 5), (0x2200, 6)];
     for (address, writes) in table {
-        for ticks in 0..=writes.len() {
-            let mut fram = memory(&rt, &START)?;
-            set(&rt, &mut fram, &standing);
-            let mut expected = memory(&rt, &START)?;
-            set(&rt, &mut expected, &standing);
-            set(&rt, &mut expected, &writes[..ticks]);
-            let mut world = world_with(&rt, ticks as u32)?;
-            let result = puts(&rt, &mut fram, &mut world, 1, (address, 7));
+        for ticks in 0..5 {
+            let ticks = writes.len().min(ticks);
+            let mut board = board_of(&rt, &START, &standing, &writes[..ticks], ticks as u32)?;
+            let result = puts(&rt, &mut board.fram, &mut board.world, 1, (address, 7));
             assert_eq!(rt;
                 result.is_ok(),
                 ticks == writes.len(),
                 "{address} with {ticks}"
             );
             assert_eq!(rt;
-                difference(&fram, &expected),
+                difference(&board.fram, &board.expected),
                 None,
                 "{address} with {ticks}"
             );
@@ -156,28 +157,30 @@ const BACK: [(u16, u16); 3] = [(0x4000, 3), (0x4002, 2), (0x4000, 1)];
 #[test]
 fn a_rollback_cut_at_every_tick_begins_again(rt: HostRuntime) -> Result<(), Fail> {
     for ticks in 0..4usize {
-        let mut fram = memory(&rt, &START)?;
-        set(&rt, &mut fram, &LOGGED);
-        let mut expected = memory(&rt, &START)?;
-        set(&rt, &mut expected, &LOGGED);
-        set(&rt, &mut expected, &BACK[..ticks]);
-        let mut world = world_with(&rt, ticks as u32)?;
+        let mut board = board_of(&rt, &START, &LOGGED, &BACK[..ticks], ticks as u32)?;
         assert_eq!(rt;
-            rolls_back(&rt, &mut fram, &mut world).is_ok(),
+            rolls_back(&rt, &mut board.fram, &mut board.world).is_ok(),
             ticks == 3,
             "{ticks} ticks"
         );
-        assert_eq!(rt; difference(&fram, &expected), None, "{ticks} ticks");
         assert_eq!(rt;
-            [recovers(&rt, &fram, 0x4000), recovers(&rt, &fram, 0x4002)],
+            difference(&board.fram, &board.expected),
+            None,
+            "{ticks} ticks"
+        );
+        assert_eq!(rt;
+            [
+                recovers(&rt, &board.fram, 0x4000),
+                recovers(&rt, &board.fram, 0x4002)
+            ],
             [1, 2],
             "{ticks} ticks"
         );
-        assert_eq!(rt; count(&fram, 0), 3);
-        world.wake();
-        assert!(rt; rolls_back(&rt, &mut fram, &mut world).is_ok());
+        assert_eq!(rt; count(&board.fram, 0), 3);
+        board.world.wake();
+        assert!(rt; rolls_back(&rt, &mut board.fram, &mut board.world).is_ok());
         assert_eq!(rt;
-            [fram.get(0x4000), fram.get(0x4002)],
+            [board.fram.get(0x4000), board.fram.get(0x4002)],
             [1, 2],
             "{ticks} ticks"
         );

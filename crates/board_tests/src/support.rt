@@ -37,6 +37,35 @@ pub fn memory<R: Abort + AllocGlobal>(rt: &R, words: &[(u16, u16)]) -> Result<Fr
     Ok(fram)
 }
 
+/// A memory, the one that it is to become, and a world.
+#[derive(Drop)]
+pub struct Board {
+    pub fram: Fram,
+    pub expected: Fram,
+    pub world: TraceWorld,
+}
+
+/// A memory in which these words stand and, over them, some more; the same with some writes; and so many ticks left.
+pub fn board_of<R: Abort + AllocGlobal>(
+    rt: &R,
+    words: &[(u16, u16)],
+    more: &[(u16, u16)],
+    writes: &[(u16, u16)],
+    ticks: u32,
+) -> Result<Board, Fail> {
+    let mut fram = memory(rt, words)?;
+    set(rt, &mut fram, more);
+    let mut expected = memory(rt, words)?;
+    set(rt, &mut expected, more);
+    set(rt, &mut expected, writes);
+    let world = world_with(rt, ticks)?;
+    Ok(Board {
+        fram,
+        expected,
+        world,
+    })
+}
+
 /// The first address at which two memories differ.
 pub fn difference(left: &Fram, right: &Fram) -> Option<u16> {
     for index in 0..32768u16 {
