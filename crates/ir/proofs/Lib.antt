@@ -1,0 +1,5 @@
+pub mod Advance
+pub mod Bounded
+pub mod Leading
+pub mod Marks
+pub mod Once

@@ -1,0 +1,6 @@
+pub mod Between
+pub mod Ends
+pub mod Jumps
+pub mod Laws
+pub mod Machine
+pub mod Table
