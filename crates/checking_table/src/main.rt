@@ -1,0 +1,22 @@
+//! Reads a table of sources with what the check answers of each, and tells the rows of which it answers something else.
+#![tactic(auto)]
+
+mod answers;
+mod sources;
+mod table;
+
+use std::io;
+use table::Table;
+
+fn main(rt: HostRuntime) -> io::Result<()> {
+    let alloc = rt.alloc();
+    let mut table = Table::new(alloc);
+    for line in rt.lines(alloc) {
+        let line = line?;
+        if let Some(answer) = table.differs(alloc, line.as_str())? {
+            println!(rt; "{line}, but the answer is {answer}")?;
+        }
+    }
+    println!(rt; "{table}")?;
+    Ok(())
+}
