@@ -51,10 +51,12 @@ none_of false n e = refl
 
 push_is : {X : Type 0} (p : X → Bool) (xs : List X) (x : X) → position p (xs ++ x ∷ [])
     ≡ cond (nat_lt (cond (eqb (position_or_len p xs) (length xs)) (length xs + cond (p x) 0 1) (position_or_len p xs))
-    (length xs + 1)) (Some (cond (eqb (position_or_len p xs) (length xs)) (length xs + cond (p x) 0 1) (position_or_len p xs))) None
+    (length xs + 1)) (Some (cond (eqb (position_or_len p xs) (length xs)) (length xs + cond (p x) 0 1) (position_or_len p xs)))
+    None
 push_is p xs x =
     ap (λ n. cond (nat_lt n (length (xs ++ x ∷ []))) (Some n) None) (position_or_len_push p xs x)
-    ∙ ap (λ len. cond (nat_lt (cond (eqb (position_or_len p xs) (length xs)) (length xs + cond (p x) 0 1) (position_or_len p xs)) len)
+    ∙ ap (λ len. cond (nat_lt (cond (eqb (position_or_len p xs) (length xs)) (length xs + cond (p x) 0 1)
+    (position_or_len p xs)) len)
     (Some (cond (eqb (position_or_len p xs) (length xs)) (length xs + cond (p x) 0 1) (position_or_len p xs))) None)
     (length_more xs x)
 
@@ -68,7 +70,9 @@ push-found p xs x j e =
     lower a b h = grind (arith, nat_tests)
 
 not_found : {X : Type 0} (p : X → Bool) (xs : List X) → position p xs ≡ None → position_or_len p xs ≡ length xs
-not_found p xs e = meets (position_or_len p xs) (length xs) (prefix_len-le-length _ xs) (none_of (nat_lt (position_or_len p xs) (length xs)) (position_or_len p xs) e)
+not_found p xs e =
+    meets (position_or_len p xs) (length xs) (prefix_len-le-length _ xs)
+    (none_of (nat_lt (position_or_len p xs) (length xs)) (position_or_len p xs) e)
   where
     meets : (a b : ℕ) → a ≤ b → nat_lt a b ≡ false → a ≡ b
     meets a b l h = grind (arith, nat_tests)

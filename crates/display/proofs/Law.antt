@@ -100,7 +100,8 @@ value_reaches d e s v h =
 values_at : (scalars : List Scalar) (m w : ℕ → ℕ) (s v : ℕ) → AreInData scalars → v ≡ value_if m (slice_get scalars s)
     → ((x : Scalar) × (s < length scalars) × (slice_get scalars s ≡ Some x) × (get_or scalars s x ≡ x))
     ⊎ ((length scalars ≤ s) × (slice_get scalars s ≡ None))
-    → fold (valued s) v (all_below (value_set scalars (display_of scalars m) (display_of scalars w)) data_end) ≡ value_if w (slice_get scalars s)
+    → fold (valued s) v (all_below (value_set scalars (display_of scalars m) (display_of scalars w)) data_end)
+    ≡ value_if w (slice_get scalars s)
 values_at scalars m w s v placed same (inl here) =
     let d = display_of scalars m in
     let e = display_of scalars w in
@@ -160,7 +161,8 @@ stamp_reaches d e s v h =
 -- where no stamp is found, both are as the older one
 stamps_alike : (scalars : List Scalar) (m w : ℕ → ℕ) (s : ℕ) (v : Option ℕ) → v ≡ stamp_if m (slice_get scalars s)
     → stamp_if m (slice_get scalars s) ≡ stamp_if w (slice_get scalars s)
-    → fold (stamped s) v (all_below (stamp_set scalars (display_of scalars m) (display_of scalars w)) data_end) ≡ stamp_if w (slice_get scalars s)
+    → fold (stamped s) v (all_below (stamp_set scalars (display_of scalars m) (display_of scalars w)) data_end)
+    ≡ stamp_if w (slice_get scalars s)
 stamps_alike scalars m w s v same alike =
     let d = display_of scalars m in
     let e = display_of scalars w in
@@ -171,7 +173,8 @@ stamps_alike scalars m w s v same alike =
 
 stamps_of : (scalars : List Scalar) (m w : ℕ → ℕ) (s : ℕ) (v : Option ℕ) (x : Scalar) (o : Option ℕ) → AreInData scalars
     → v ≡ stamp_if m (slice_get scalars s) → slice_get scalars s ≡ Some x → x.stamp ≡ o → IfSome o (λ a. LiesInData a stamp_bytes)
-    → fold (stamped s) v (all_below (stamp_set scalars (display_of scalars m) (display_of scalars w)) data_end) ≡ stamp_if w (slice_get scalars s)
+    → fold (stamped s) v (all_below (stamp_set scalars (display_of scalars m) (display_of scalars w)) data_end)
+    ≡ stamp_if w (slice_get scalars s)
 stamps_of scalars m w s v x None placed same here none within =
     stamps_alike scalars m w s v same
     (ap (stamp_if m) here ∙ ap (stamp_of m) none ∙ sym (ap (stamp_of w) none) ∙ sym (ap (stamp_if w) here))
@@ -190,7 +193,8 @@ stamps_at : (scalars : List Scalar) (m w : ℕ → ℕ) (s : ℕ) (v : Option �
     → v ≡ stamp_if m (slice_get scalars s)
     → ((x : Scalar) × (s < length scalars) × (slice_get scalars s ≡ Some x) × (get_or scalars s x ≡ x))
     ⊎ ((length scalars ≤ s) × (slice_get scalars s ≡ None))
-    → fold (stamped s) v (all_below (stamp_set scalars (display_of scalars m) (display_of scalars w)) data_end) ≡ stamp_if w (slice_get scalars s)
+    → fold (stamped s) v (all_below (stamp_set scalars (display_of scalars m) (display_of scalars w)) data_end)
+    ≡ stamp_if w (slice_get scalars s)
 stamps_at scalars m w s v placed same (inl here) =
     stamps_of scalars m w s v here.0 here.0.stamp placed same here.2 refl (placed.placed s here.0 here.2).stamp
 stamps_at scalars m w s v placed same (inr here) =
@@ -274,7 +278,8 @@ outs-shown scalars d e g i below same =
 -- ---- the law
 
 -- Whatever display shows the same as the older memory, with the changes it shows the same as the newer one.
-pub sets_between-lead : (scalars : List Scalar) (m w : ℕ → ℕ) (g : Display) → AreInData scalars → ShowsSame g (display_of scalars m)
+pub sets_between-lead : (scalars : List Scalar) (m w : ℕ → ℕ) (g : Display) → AreInData scalars
+    → ShowsSame g (display_of scalars m)
     → ShowsSame (fold changed g (sets_between scalars (display_of scalars m) (display_of scalars w))) (display_of scalars w)
 sets_between-lead scalars m w g placed same = record {
   values = λ s. values-shown scalars m w g s placed (same.values s);

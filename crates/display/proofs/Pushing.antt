@@ -20,7 +20,8 @@ within n s bound number e h = subst (λ o. IfSome o (λ t. t < bound)) e h
 -- the scalar that is read by its number
 pub known_scalar : (scalars : List Scalar) (s : ℕ) (x : Scalar) (number : Option ℕ) → number ≡ Some s
     → IfSome number (λ t. t < length scalars) → x ≡ slice_index_or scalars s x → slice_get scalars s ≡ Some x
-known_scalar scalars s x number e known is = slice_get_read scalars (length scalars) s x refl (within s s (length scalars) number e known) is
+known_scalar scalars s x number e known is =
+    slice_get_read scalars (length scalars) s x refl (within s s (length scalars) number e known) is
 
 no_change : {A : Type 0} (v w : ℕ) (x : A) → v ≡ w → (if v == w then [] else x ∷ []) ≡ []
 no_change v w x e = let same : (v == w) ≡ true = grind (arith, nat_tests) in ap (λ b. cond b [] (x ∷ [])) same
@@ -80,7 +81,8 @@ stamps_equal (Some x) (Some y) h = ap Some (equal x y h)
 
 no_stamp : {A : Type 0} (o p : Option ℕ) (x : A) → o ≡ p → (if option_eq nat_eq o p then [] else x ∷ []) ≡ []
 no_stamp None p x e = ap (λ q. cond (option_eq nat_eq None q) [] (x ∷ [])) (sym e)
-no_stamp (Some v) p x e = ap (λ q. cond (option_eq nat_eq (Some v) q) [] (x ∷ [])) (sym e) ∙ ap (λ b. cond b [] (x ∷ [])) (itself v)
+no_stamp (Some v) p x e =
+    ap (λ q. cond (option_eq nat_eq (Some v) q) [] (x ∷ [])) (sym e) ∙ ap (λ b. cond b [] (x ∷ [])) (itself v)
   where
     itself : (v : ℕ) → nat_eq v v ≡ true
     itself v = grind (arith, nat_tests)
@@ -109,11 +111,13 @@ stamp-kept scalars log m s x number xs a o p e known is timed ho hp same =
     let dv : d.stamps s ≡ o = stamp_known scalars (before log m) s x a o here timed ho in
     let fv : f.stamps s ≡ p = stamp_known scalars m s x a p here timed hp in
     shown-nothing xs (stamp_change d f number)
-    (ap (stamp_change d f) e ∙ no_stamp (d.stamps s) (f.stamps s) (Stamp s (f.stamps s)) (dv ∙ stamps_equal o p (not_false (option_eq nat_eq o p) same) ∙ sym fv))
+    (ap (stamp_change d f) e ∙ no_stamp (d.stamps s) (f.stamps s) (Stamp s (f.stamps s))
+    (dv ∙ stamps_equal o p (not_false (option_eq nat_eq o p) same) ∙ sym fv))
 
 pub stamp-pushed : (scalars : List Scalar) (log : ℕ) (m : ℕ → ℕ) (s : ℕ) (x : Scalar) (number : Option ℕ) (xs ys : List Shown)
     (a : ℕ) (o p : Option ℕ) → number ≡ Some s → IfSome number (λ t. t < length scalars) → x ≡ slice_index_or scalars s x
-    → x.stamp ≡ Some a → o ≡ stamp_at (before log m) a → p ≡ stamp_at m a → true ≡ not (option_eq nat_eq o p) → ys ≡ xs ++ Stamp s p ∷ []
+    → x.stamp ≡ Some a → o ≡ stamp_at (before log m) a → p ≡ stamp_at m a → true ≡ not (option_eq nat_eq o p)
+    → ys ≡ xs ++ Stamp s p ∷ []
     → ys ≡ xs ++ stamp_change (shown_before scalars log m) (display_of scalars m) number
 stamp-pushed scalars log m s x number xs ys a o p e known is timed ho hp differs pushed =
     let d = shown_before scalars log m in

@@ -63,7 +63,8 @@ stamp_at-same m w a h k =
     ap (λ v. cond (nat_le 0x8000 (m (a + 2))) None (Some (v + 65536 * m (a + 2)))) h
     ∙ ap (λ v. cond (nat_le 0x8000 v) None (Some (w a + 65536 * v))) k
 
-stamps_same : (m w : ℕ → ℕ) (o : Option ℕ) → SameWords m w → IfSome o (λ a. LiesInData a stamp_bytes) → stamp_of m o ≡ stamp_of w o
+stamps_same : (m w : ℕ → ℕ) (o : Option ℕ) → SameWords m w → IfSome o (λ a. LiesInData a stamp_bytes)
+    → stamp_of m o ≡ stamp_of w o
 stamps_same m w None h within = refl
 stamps_same m w (Some a) h within =
     let low = within.low in
@@ -112,11 +113,13 @@ unfolding all_below
 all_below-same f g zero h = refl
 all_below-same f g (suc n) h = ap (λ xs. xs ++ f n) (all_below-same f g n h) ∙ ap (λ xs. all_below g n ++ xs) (h n)
 
-value_change-same : (d e f : Display) (o : Option ℕ) → ((s : ℕ) → d.values s ≡ f.values s) → value_change d e o ≡ value_change f e o
+value_change-same : (d e f : Display) (o : Option ℕ) → ((s : ℕ) → d.values s ≡ f.values s)
+    → value_change d e o ≡ value_change f e o
 value_change-same d e f None h = refl
 value_change-same d e f (Some s) h = ap (λ v. if v == e.values s then [] else Value s (e.values s) ∷ []) (h s)
 
-stamp_change-same : (d e f : Display) (o : Option ℕ) → ((s : ℕ) → d.stamps s ≡ f.stamps s) → stamp_change d e o ≡ stamp_change f e o
+stamp_change-same : (d e f : Display) (o : Option ℕ) → ((s : ℕ) → d.stamps s ≡ f.stamps s)
+    → stamp_change d e o ≡ stamp_change f e o
 stamp_change-same d e f None h = refl
 stamp_change-same d e f (Some s) h = ap (λ v. if option_eq nat_eq v (e.stamps s) then [] else Stamp s (e.stamps s) ∷ []) (h s)
 
@@ -135,7 +138,8 @@ out_change-same d e f i h =
     (λ l. ap (λ v. v == e.outs i) (h.outs i (lower i f.outputs l))))
 
 -- A display that shows the same has the same changes to another.
-pub sets_between-same : (scalars : List Scalar) (d e f : Display) → ShowsSame d f → sets_between scalars d e ≡ sets_between scalars f e
+pub sets_between-same : (scalars : List Scalar) (d e f : Display) → ShowsSame d f
+    → sets_between scalars d e ≡ sets_between scalars f e
 sets_between-same scalars d e f h =
     let p = all_below-same (value_set scalars d e) (value_set scalars f e) data_end
     (λ a. value_change-same d e f (value_number scalars a) h.values) in
@@ -144,7 +148,8 @@ sets_between-same scalars d e f h =
     let r : length_change d e ≡ length_change f e = ap (λ n. if n == e.outputs then [] else Outs e.outputs ∷ []) h.outputs in
     let t = all_below-same (out_change d e) (out_change f e) e.outputs (λ i. out_change-same d e f i h) in
     ap (λ xs. xs ++ (all_below (stamp_set scalars d e) data_end ++ (length_change d e ++ all_below (out_change d e) e.outputs))) p
-    ∙ ap (λ xs. all_below (value_set scalars f e) data_end ++ (xs ++ (length_change d e ++ all_below (out_change d e) e.outputs))) q
+    ∙ ap (λ xs. all_below (value_set scalars f e) data_end
+    ++ (xs ++ (length_change d e ++ all_below (out_change d e) e.outputs))) q
     ∙ ap (λ xs. all_below (value_set scalars f e) data_end ++ (all_below (stamp_set scalars f e) data_end
     ++ (xs ++ all_below (out_change d e) e.outputs))) r
     ∙ ap (λ xs. all_below (value_set scalars f e) data_end ++ (all_below (stamp_set scalars f e) data_end

@@ -24,7 +24,8 @@ pub all_below-more : (f : ℕ → List Shown) (n : ℕ) → all_below f (n + 1) 
 unfolding all_below
 all_below-more f n = rw add-one refl
 
-pub all_below-quiet : (f : ℕ → List Shown) (n k : ℕ) → n ≤ k → ((a : ℕ) → n ≤ a → a < k → f a ≡ []) → all_below f k ≡ all_below f n
+pub all_below-quiet : (f : ℕ → List Shown) (n k : ℕ) → n ≤ k → ((a : ℕ) → n ≤ a → a < k → f a ≡ [])
+    → all_below f k ≡ all_below f n
 unfolding all_below
 all_below-quiet f n zero l quiet = let e : n ≡ 0 = omega arith in ap (all_below f) (sym e)
 all_below-quiet f n (suc k) l quiet = elim (at_or_below n k l) [
@@ -121,8 +122,8 @@ value_set-quiet scalars log m done at a even none low high =
     value_quiet scalars log m a (value_number scalars a)
     (before-unlogged log m done at (word_address a) none (omega arith) (omega arith) (omega arith)) refl
 
-values_between : (scalars : List Scalar) (log : ℕ) (m : ℕ → ℕ) (done at : ℕ) → done % 2 ≡ 0 → NoneEntered log m done at → done ≤ at
-    → all_below (value_set scalars (shown_before scalars log m) (display_of scalars m)) at
+values_between : (scalars : List Scalar) (log : ℕ) (m : ℕ → ℕ) (done at : ℕ) → done % 2 ≡ 0 → NoneEntered log m done at
+    → done ≤ at → all_below (value_set scalars (shown_before scalars log m) (display_of scalars m)) at
     ≡ all_below (value_set scalars (shown_before scalars log m) (display_of scalars m)) done
 values_between scalars log m done at even none l =
     all_below-quiet (value_set scalars (shown_before scalars log m) (display_of scalars m)) done at l

@@ -44,7 +44,8 @@ pub boot-agrees : (t : Ideal) (registers : List ℕ) (work : Work) (m m2 : ℕ �
     → AreRegisters registers (recovered m) → IsWork work (recovered m) → IsMemory m2 (recovered m)
     → Agrees t (view_of registers) m2 work.segment None work.marks
 boot-agrees t registers work m m2 a size regs is memory = record {
-  regs_are = a.regs_are ∙ all-registers registers (recovered m).registers size regs (λ k h. none-past (λ j. current m (128 + j)) k h);
+  regs_are = a.regs_are ∙ all-registers registers (recovered m).registers size regs
+      (λ k h. none-past (λ j. current m (128 + j)) k h);
   memory = record {
     at = λ b h. a.memory.at b h ∙ ap (byte_in b) (sym (memory (word_address b)
         (settled-live (recovered m).registers (recovered m).state ((recovered m).state 0) b refl (a.within b h))));
@@ -113,14 +114,16 @@ boot-goes o instrs cost records f f2 w w2 registers work b still spends none sin
         closed = record { block = none_open; length = length_is };
       };
       number = is.commits ∙ sym (ap commits_of still.recovered);
-      marks_later = subst (λ n. n + o.world.spent ≤ marks_of (kept_in o.fram) + w2.spent) (sym marks) (omega (arith, k.marks_later));
+      marks_later = subst (λ n. n + o.world.spent ≤ marks_of (kept_in o.fram) + w2.spent) (sym marks)
+          (omega (arith, k.marks_later));
       here_later = subst (λ n. n + o.world.spent ≤ w2.spent) made (omega (arith, k.instrs_later));
       machine = λ start t.
           subst (λ r. Claim start r instrs (HasCome registers work (words_of f2.words) w2)) (sym readings)
           (subst (λ n. Claim start s.last.readings n (HasCome registers work (words_of f2.words) w2)) made
           (claim-map start s.last.readings s.last.instrs (HasRecovered IsRunning o.world.period (words_of f.words))
           (HasCome registers work (words_of f2.words) w2)
-          (λ u h. boot-come o registers work (words_of f.words) (words_of f2.words) w2 u h size regs is memory none since length_is
+          (λ u h. boot-come o registers work (words_of f.words) (words_of f2.words) w2 u h size regs is memory none since
+          length_is
           (calm.period ∙ k.period)) (k.machine start t)));
     }
 

@@ -27,7 +27,8 @@ pub given-one : (n : ℕ) (registers registers2 : List ℕ) (m m2 : ℕ → ℕ)
     → length w2.readings ≤ before + 1
 given-one n registers registers2 m m2 work work2 w w2 answer before s e =
     let taken = taken_of (ask_found n registers m work) s.value in
-    let k : length w2.readings ≡ length w.readings + length taken = ap length s.passes.readings ∙ length-append w.readings taken in
+    let k : length w2.readings ≡ length w.readings + length taken = ap length s.passes.readings
+    ∙ length-append w.readings taken in
     let one : length taken ≤ 1 = one-taken (ask_found n registers m work) s.value in
     omega arith
 
@@ -38,7 +39,8 @@ pub recorded : (n here : ℕ) (registers registers2 : List ℕ) (work work2 : Wo
     → records2 ≡ records1 ++ commit_records c registers2 work2 here → instrs2 ≡ instrs_after c instrs here
     → length registers2 ≡ 16 → f2.poked ≡ f.poked
     → IsServed n here registers work (now records f w) instrs result registers2 work2 (now records2 f2 w2) instrs2
-recorded n here registers registers2 work work2 records records1 records2 f f2 w w2 instrs instrs2 before result answer c s t ec eb r1 r2 i size poked =
+recorded n here registers registers2 work work2 records records1 records2 f f2 w w2 instrs instrs2 before result answer c s t
+    ec eb r1 r2 i size poked =
     let taken = taken_of (ask_found n registers (words_of f.words) work) s.value in
     let given : drop before w2.readings ≡ taken = ap (drop before) s.passes.readings ∙ drop_at w.readings taken before (sym eb) in
     record {

@@ -144,7 +144,8 @@ woken o instrs number records records2 f w w2 r idle n k e =
       rests = record {
         keeps = keeps-push o (IsBetweenCycles records) (IsInCycle o (records ++ On (number + 1) ∷ [])) IsRunning records
             (On (number + 1)) f w w2 tt tt (λ p h. on-within o records p number n (omega arith) h)
-            (k.readings ∙ sym (append-nil w.readings)) (powers-woken o records (number + 1) w w2 r.keeps.power idle k) (omega arith)
+            (k.readings ∙ sym (append-nil w.readings)) (powers-woken o records (number + 1) w w2 r.keeps.power idle k)
+            (omega arith)
             k.period r.keeps;
         instrs_are = ap (λ (s : Story). s.last.instrs) told ∙ r.instrs_are;
       };

@@ -182,7 +182,8 @@ pub keeps-reads : (o : Origin) (S : IdealEnd → Type 0) (records : List Record)
     → Keeps o (IsInCycle o (records ++ read_records rs)) S
     (now (records ++ read_records rs) f (record w { readings = w.readings ++ rs }))
 keeps-reads o S records f w [] k =
-    subst (λ (r : List Record). Keeps o (IsInCycle o r) S (now r f (record w { readings = w.readings ++ [] }))) (sym (append-nil records))
+    subst (λ (r : List Record). Keeps o (IsInCycle o r) S (now r f (record w { readings = w.readings ++ [] })))
+    (sym (append-nil records))
     (subst (λ (r : List Reading). Keeps o (IsInCycle o records) S (now records f (record w { readings = r })))
     (sym (append-nil w.readings)) k)
 keeps-reads o S records f w (r ∷ rs) k =
@@ -217,13 +218,15 @@ pub keeps-commit : (o : Origin) (S S2 : IdealEnd → Type 0) (records : List Rec
     → cycles_in o.records < cycles_in records
     → IsWellFormed (words_of f2.words) → f2.poked ≡ f.poked → IsShut (kept_in f2) → number ≡ commits_of (kept_in f) + 1
     → commits_of (kept_in f2) ≡ number → marks_of (kept_in f2) ≡ marks
-    → marks + o.world.spent ≤ marks_of (kept_in o.fram) + w2.spent → number + o.world.spent ≤ commits_of (kept_in o.fram) + w2.spent
+    → marks + o.world.spent ≤ marks_of (kept_in o.fram) + w2.spent
+    → number + o.world.spent ≤ commits_of (kept_in o.fram) + w2.spent
     → i + o.world.spent ≤ w2.spent → log ≤ 256
     → Always o (readings_so_far (story_in o records)) i
     (λ t. HasRecovered S2 o.world.period (words_of f2.words) t × IsPrinted number marks pc sp t)
     → Keeps o (IsInCycle o (records ++ Commit number marks i pc sp 155 log [] ∷ [])) S2
     (now (records ++ Commit number marks i pc sp 155 log [] ∷ []) f2 w2)
-keeps-commit o S S2 records f f2 w w2 number marks i pc sp log k calm some formed poked shut next commits_are marks_are low high later fits is =
+keeps-commit o S S2 records f f2 w w2 number marks i pc sp log k calm some formed poked shut next commits_are marks_are low
+    high later fits is =
     let x = Commit number marks i pc sp 155 log [] in
     let s = story_in o records in
     let told : story_in o (records ++ x ∷ []) ≡ after s x = story-more o records x k.added in

@@ -87,7 +87,12 @@ same-number n k s t h = cc
 alike-next : (p : ℕ → Bool) (o : Outcome) (board : State) → EndAlike p o (Next board) → IsAlike p Next o board
 alike-next p (Next s) board (t, e, r, m) =
     let q : t ≡ board = sym (same-next board t e) in
-    record { s = s; is = refl; regs = r ∙ ap (λ (x : State). x.regs) q; memory = subst (λ (x : State). SameOn p s.memory x.memory) q m }
+    record {
+      s = s;
+      is = refl;
+      regs = r ∙ ap (λ (x : State). x.regs) q;
+      memory = subst (λ (x : State). SameOn p s.memory x.memory) q m;
+    }
 alike-next p (Calls n s) board (t, e, r, m) = absurd (no-service board t n e)
 alike-next p (Wild a) board e = absurd (no-wild board a e)
 
@@ -164,7 +169,8 @@ moved-come t s registers registers2 work m m2 w w2 h regs memory count spends =
     }
 
 -- The machine, with these readings to take, comes by its next instruction to where the board does.
-pub record Arrives (t : Ideal) (kind : State → Outcome) (registers : List ℕ) (work : Work) (m : ℕ → ℕ) (w : WorldState) : Type 0 where
+pub record Arrives (t : Ideal) (kind : State → Outcome) (registers : List ℕ) (work : Work) (m : ℕ → ℕ)
+    (w : WorldState) : Type 0 where
   pub s : State
   pub is : step free t.core ≡ kind s
   pub come : HasCome registers work m w (moved t s)

@@ -27,7 +27,8 @@ added-more o xs x h = added-append o xs (x ∷ []) h
 
 pub adds-more : (o : Origin) (xs : List Record) (x : Record) → Adds o xs → Adds o (xs ++ x ∷ [])
 adds-more o xs x h =
-    ap (λ r. r ++ x ∷ []) h ∙ append_assoc o.records (added_in o xs) (x ∷ []) ∙ ap (λ r. o.records ++ r) (sym (added-more o xs x h))
+    ap (λ r. r ++ x ∷ []) h ∙ append_assoc o.records (added_in o xs) (x ∷ [])
+    ∙ ap (λ r. o.records ++ r) (sym (added-more o xs x h))
 
 pub story-append : (o : Origin) (xs ys : List Record) → Adds o xs → story_in o (xs ++ ys) ≡ fold after (story_in o xs) ys
 story-append o xs ys h =
@@ -43,7 +44,8 @@ phase-more o k xs x h = ap (phase_of k) (added-more o xs x h) ∙ fold-append ph
 pub reads-more : (o : Origin) (xs : List Record) (x : Record) → Adds o xs
     → reads_of (added_in o (xs ++ x ∷ [])) ≡ reads_of (added_in o xs) ++ read_in x
 reads-more o xs x h =
-    ap reads_of (added-more o xs x h) ∙ fold-append (λ (rs : List Reading) (r : Record). rs ++ read_in r) [] (added_in o xs) (x ∷ [])
+    ap reads_of (added-more o xs x h)
+    ∙ fold-append (λ (rs : List Reading) (r : Record). rs ++ read_in r) [] (added_in o xs) (x ∷ [])
 
 right-append : (o : Origin) (s : Story) (xs ys : List Record) → AreRight o s xs → AreRight o (fold after s xs) ys
     → AreRight o s (xs ++ ys)
@@ -57,7 +59,8 @@ right-more o xs x h k r =
     subst (AreRight o (beginning (first_point o))) (sym (added-more o xs x h))
     (right-append o (beginning (first_point o)) (added_in o xs) (x ∷ []) k (r, tt))
 
-pub cycles-more : (xs : List Record) (x : Record) → cycles_in (xs ++ x ∷ []) ≡ (if is_on x then cycles_in xs + 1 else cycles_in xs)
+pub cycles-more : (xs : List Record) (x : Record)
+    → cycles_in (xs ++ x ∷ []) ≡ (if is_on x then cycles_in xs + 1 else cycles_in xs)
 cycles-more xs x = fold-append (λ (n : ℕ) (r : Record). if is_on r then n + 1 else n) 0 xs (x ∷ [])
 
 -- ---- a record that is no commit
@@ -104,5 +107,6 @@ end-phase p k kind h f = ap (λ q. phase_after q (End kind)) h ∙ ap (λ b. if 
 pub in_cycle-more : (o : Origin) (xs : List Record) (x : Record) (p : Phase) → is_on x ≡ false
     → ((k : ℕ) → phase_after (Within k) x ≡ Within k) → IsInCycle o xs p → IsInCycle o (xs ++ x ∷ []) (phase_after p x)
 in_cycle-more o xs x p plain stays h =
-    let n : cycles_in (xs ++ x ∷ []) ≡ cycles_in xs = cycles-more xs x ∙ ap (λ b. if b then cycles_in xs + 1 else cycles_in xs) plain in
+    let n : cycles_in (xs ++ x ∷ []) ≡ cycles_in xs = cycles-more xs x
+    ∙ ap (λ b. if b then cycles_in xs + 1 else cycles_in xs) plain in
     (ap (λ q. phase_after q x) h.0 ∙ stays (cycles_in xs) ∙ ap Within (sym n), subst (λ k. cycles_in o.records < k) (sym n) h.1)

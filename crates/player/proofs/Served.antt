@@ -189,7 +189,8 @@ by-deed (Does e) registers registers2 m m2 work work2 w w2 answer own is left re
         let x : Effected e m work w (committed_in answer) registers2 m2 work2 w2 =
         power-in e.ends (committed_of due log) answer _ k effect in
         let h : IsStepped work work2 w2.spent (committed_of due log) =
-        subst (λ (y : Work). IsStepped work y w2.spent (committed_of due log)) (sym x.work_is) (stepped-by e due log work w2.spent short) in
+        subst (λ (y : Work). IsStepped work y w2.spent (committed_of due log)) (sym x.work_is)
+        (stepped-by e due log work w2.spent short) in
         subst (IsAnswer work work2 w2) (sym k) (made-answer e.ends (committed_of due log) work work2 w2 h)
 
 few-entries : (d : Deed) (segment count : ℕ) → count + 8 ≤ 256 → OnDoes d (λ e. IsShort segment e)

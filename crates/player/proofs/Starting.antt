@@ -1,7 +1,6 @@
 -- A loaded board is where a machine starts.
-use Rattle.std.proofs.Common.{◌≡◌, ℕ, ◌+◌, ◌*◌, ◌<◌, ◌^◌, refl, sym, ap, ◌∙◌, subst, arith, None, []}
+use Rattle.std.proofs.Common.{◌≡◌, ℕ, refl, sym, subst, arith, None, []}
 use Rattle.base16.specs.Memory.{words_of}
-use Rattle.board_map.specs.Recovered.{recovered}
 use Rattle.fram.specs.Contents.{Contents}
 use Rattle.ideal430.specs.Agreement.{Agrees}
 use Rattle.ideal430.specs.Loaded.{start_of}
@@ -30,7 +29,8 @@ load-starts o zero_state a =
     let f : (kept_in o.fram).state 6 ≡ 0 = zero_state 6 in
     let marks : 0 ≡ marks_of (kept_in o.fram) = omega arith in
     let commits : 0 ≡ commits_of (kept_in o.fram) = omega arith in
-    let whole : Agrees (started (words_of o.fram.words) o.world.period) (kept_in o.fram).registers (kept_in o.fram).memory 0 None 0 =
+    let t = started (words_of o.fram.words) o.world.period in
+    let whole : Agrees t (kept_in o.fram).registers (kept_in o.fram).memory 0 None 0 =
     record {
       regs_are = a.regs_are;
       memory = a.memory;
@@ -43,10 +43,8 @@ load-starts o zero_state a =
     record {
       left = refl;
       at = record {
-        fits = subst (λ n. Agrees (started (words_of o.fram.words) o.world.period) (kept_in o.fram).registers
-            (kept_in o.fram).memory ((kept_in o.fram).state 0) None n) marks
-            (subst (λ n. Agrees (started (words_of o.fram.words) o.world.period) (kept_in o.fram).registers
-            (kept_in o.fram).memory n None 0) (sym segment) whole);
+        fits = subst (λ n. Agrees t (kept_in o.fram).registers (kept_in o.fram).memory ((kept_in o.fram).state 0) None n) marks
+            (subst (λ n. Agrees t (kept_in o.fram).registers (kept_in o.fram).memory n None 0) (sym segment) whole);
         fresh = record { ticks = refl; entries = refl; commits_are = commits; length = refl; period_is = refl };
         stands = refl;
       };

@@ -68,7 +68,8 @@ told-reads s (r ∷ rs) h =
     }
 
 pub told : (o : Origin) (records : List Record) (rs : List Reading) → Adds o records
-    → OnGoing (story_in o records).going (λ a. Unit {0}) → IsTold (story_in o records) (story_in o (records ++ read_records rs)) rs
+    → OnGoing (story_in o records).going (λ a. Unit {0})
+    → IsTold (story_in o records) (story_in o (records ++ read_records rs)) rs
 told o records rs adds h =
     subst (λ (v : Story). IsTold (story_in o records) v rs) (sym (story-append o records (read_records rs) adds))
     (told-reads (story_in o records) rs h)
@@ -122,7 +123,8 @@ pub stood-claim : (o : Origin) (n here : ℕ) (registers registers1 registers2 :
     → ((t : Ideal) → Follows answer t [] registers2 m2 work2 → StandsAt t end [] registers2 m2 work2)
     → ((P : Type 0) → OnPower answer P → P)
     → Always o (readings ++ taken_of (ask_found n registers1 m1 work) sv.value) (here + 1) (HasStood end registers2 work2 m2 w2)
-stood-claim o n here registers registers1 registers2 work work2 m m1 m2 w w1 w2 readings answer end now_at count spends e sv stands power =
+stood-claim o n here registers registers1 registers2 work work2 m m1 m2 w w1 w2 readings answer end now_at count spends e sv
+    stands power =
     λ start s.
     let rs = taken_of (ask_found n registers1 m1 work) sv.value in
     subst (λ k. Claim start (readings ++ rs) k (HasStood end registers2 work2 m2 w2)) (sym (add-one here))
@@ -217,7 +219,8 @@ pub served-turned : (o : Origin) (instrs here n : ℕ) (registers registers1 reg
     ≡ step (gate work.segment) (record { regs = view_of registers; memory = words_of f.words })
     → IsServed n (here + 1) registers1 work (now records f1 w1) instrs result registers2 work2 (now records2 f2 w2) instrs2
     → Turned result o instrs2 (here + 1) registers2 work2 (now records2 f2 w2)
-served-turned o instrs here n registers registers1 registers2 work work2 records records2 f f1 f2 w w1 w2 instrs2 result g put poked spends e v =
+served-turned o instrs here n registers registers1 registers2 work work2 records records2 f f1 f2 w w1 w2 instrs2 result g put
+    poked spends e v =
     subst (λ r. Turned r o instrs2 (here + 1) registers2 work2 (now records2 f2 w2)) (sym v.result_is)
     (subst (λ i. Turned (turn_of v.answer) o i (here + 1) registers2 work2 (now records2 f2 w2)) (sym v.instrs_are)
     (subst (λ r. Turned (turn_of v.answer) o (instrs_after (committed_in v.answer) instrs (here + 1)) (here + 1) registers2 work2
@@ -322,7 +325,8 @@ served-turned o instrs here n registers registers1 registers2 work work2 records
         (λ t h. subst (λ a. Follows a t [] registers2 (words_of f2.words) work2) q h) (λ P h. subst (λ a. OnPower a P) q h)
 
     stood_over : (kind : EndKind) (c : Option Committed) → v.answer ≡ served.End kind c
-        → Always o (readings_so_far (story_in o behind)) (here + 1) (HasStood (Ended kind) registers2 work2 (words_of f2.words) w2)
+        → Always o (readings_so_far (story_in o behind)) (here + 1)
+        (HasStood (Ended kind) registers2 work2 (words_of f2.words) w2)
     stood_over kind c q = stood (Ended kind)
         (λ t h. subst (λ a. Follows a t [] registers2 (words_of f2.words) work2) q h) (λ P h. subst (λ a. OnPower a P) q h)
 
@@ -406,8 +410,8 @@ served-turned o instrs here n registers registers1 registers2 work work2 records
           cause = cause o (story_in o behind) kind (record { instrs = here + 1; ended = ended_over kind None q });
         })
     by (served.End kind (Some c)) q =
-        let st : IsStepped work work2 w2.spent (Some c) = subst (λ a. OnPower a (IsStepped work work2 w2.spent (committed_in a))) q
-        answer.stepped in
+        let st : IsStepped work work2 w2.spent (Some c) =
+        subst (λ a. OnPower a (IsStepped work work2 w2.spent (committed_in a))) q answer.stepped in
         record {
           keeps = keeps_committed IsAny (Ended kind) c tt (ap committed_in q) st (stood_over kind (Some c) q);
           own = answer.own kind (Some c) q;
@@ -434,8 +438,8 @@ served-turned o instrs here n registers registers1 registers2 work work2 records
         } in
         subst (λ r. Goes o instrs (here + 1) registers2 work2 (now r f2 w2)) (sym (append-nil behind)) goes
     by (served.Done (Some c)) q =
-        let st : IsStepped work work2 w2.spent (Some c) = subst (λ a. OnPower a (IsStepped work work2 w2.spent (committed_in a))) q
-        answer.stepped in
+        let st : IsStepped work work2 w2.spent (Some c) =
+        subst (λ a. OnPower a (IsStepped work work2 w2.spent (committed_in a))) q answer.stepped in
         record {
           rests = record {
             keeps = keeps_committed IsRunning Running c refl (ap committed_in q) st (stood_on (Some c) q);
@@ -446,7 +450,8 @@ served-turned o instrs here n registers registers1 registers2 work work2 records
           number = sym (committed-commits registers2 work2 (words_of f2.words) w1 w2 (committed c (ap committed_in q)));
           marks_later = marks_later (Some c) st;
           here_later = later;
-          machine = λ start s. subst (λ r. Claim start r (here + 1) (HasCome registers2 work2 (words_of f2.words) w2)) (sym (so c))
+          machine = λ start s. subst (λ r. Claim start r (here + 1) (HasCome registers2 work2 (words_of f2.words) w2))
+              (sym (so c))
               (claim-map start (readings_so_far (story_in o behind)) (here + 1)
               (HasStood Running registers2 work2 (words_of f2.words) w2) (HasCome registers2 work2 (words_of f2.words) w2)
               (come-stood registers2 work2 (words_of f2.words) w2) (stood_on (Some c) q start s));

@@ -130,7 +130,8 @@ pub record IsServed (n here : ℕ) (registers : List ℕ) (work : Work) (a : Mom
   pub answer : Served
   pub result_is : result ≡ turn_of answer
   pub serves : Serves n registers (words_of a.fram.words) work a.world answer registers2 (words_of b.fram.words) work2 b.world
-  pub records_are : b.records ≡ (a.records ++ read_records (taken_of (ask_found n registers (words_of a.fram.words) work) serves.value))
+  pub records_are : b.records
+      ≡ (a.records ++ read_records (taken_of (ask_found n registers (words_of a.fram.words) work) serves.value))
       ++ commit_records (committed_in answer) registers2 work2 here
   pub instrs_are : instrs2 ≡ instrs_after (committed_in answer) instrs here
   pub sixteen : length registers2 ≡ 16

@@ -12,3 +12,6 @@ mod turning;
 pub use laws::a_loaded_board_starts;
 pub use playable::is_playable;
 pub use playing::play;
+
+#[cfg(test)]
+mod tests;

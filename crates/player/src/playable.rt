@@ -11,7 +11,8 @@ use fram::Fram;
 fn is_small(fram: &Fram, index: u16) -> bool
     requires well_formed { IsWellFormed (words_of fram.now.words) }
     requires index { index < 152 }
-    ensures { IsTrue result ↔ current (words_of fram.now.words) index + 65536 * current (words_of fram.now.words) (index + 1) < 2 ^ 31 }
+    ensures { IsTrue result
+        ↔ current (words_of fram.now.words) index + 65536 * current (words_of fram.now.words) (index + 1) < 2 ^ 31 }
 {
     let slot = gate(fram);
     let low = u32::from(slot_word(fram, slot, index));

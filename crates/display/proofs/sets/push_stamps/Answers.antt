@@ -54,7 +54,8 @@ push_stamp-requires-clause-room c =
     omega (
       arith,
       walk-room c.args.log m c.walk.done c.next_logged-at.result (vec_len c.walk.sets) (vec_len c.args.sets.now)
-          (vec_capacity c.args.sets.now) (vec_capacity c.walk.sets) e c.walk.invariant.room c.requires.room c.walk.invariant.capacity,
+          (vec_capacity c.args.sets.now) (vec_capacity c.walk.sets) e c.walk.invariant.room c.requires.room
+          c.walk.invariant.capacity,
     )
 
 pub stamp_at-requires-in-walk : goal.stamp_at-requires-in-walk

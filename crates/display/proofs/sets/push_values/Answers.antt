@@ -40,7 +40,8 @@ push_value-requires-clause-room c =
     omega (
       arith,
       walk-room c.args.log m c.walk.done c.next_logged-at.result (vec_len c.walk.sets) (vec_len c.args.sets.now)
-          (vec_capacity c.args.sets.now) (vec_capacity c.walk.sets) e c.walk.invariant.room c.requires.room c.walk.invariant.capacity,
+          (vec_capacity c.args.sets.now) (vec_capacity c.walk.sets) e c.walk.invariant.room c.requires.room
+          c.walk.invariant.capacity,
     )
 
 pub value_at-requires-in-walk : goal.value_at-requires-in-walk
@@ -59,7 +60,8 @@ push_value-requires-in-walk-clause-room c =
       c.push_value.ensures.len,
       c.push_value.ensures.capacity,
       walk-room c.args.log m c.walk.done c.next_logged-at.result (vec_len c.walk.sets) (vec_len c.args.sets.now)
-          (vec_capacity c.args.sets.now) (vec_capacity c.walk.sets) e c.walk.invariant.room c.requires.room c.walk.invariant.capacity,
+          (vec_capacity c.args.sets.now) (vec_capacity c.walk.sets) e c.walk.invariant.room c.requires.room
+          c.walk.invariant.capacity,
     )
 
 pub walk-preserved : goal.walk-preserved

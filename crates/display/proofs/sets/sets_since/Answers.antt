@@ -16,7 +16,8 @@ use Rattle.display.proofs.sets.sets_since.Goals.{After-from_vec}
 
 -- the changes from the display before
 all : (c : After-from_vec) → c.from_vec.result
-    ≡ sets_between c.args.symbols.now.scalars (shown_before c.args.symbols.now.scalars c.args.log (words_of c.args.fram.now.words))
+    ≡ sets_between c.args.symbols.now.scalars
+    (shown_before c.args.symbols.now.scalars c.args.log (words_of c.args.fram.now.words))
     (display_of c.args.symbols.now.scalars (words_of c.args.fram.now.words))
 all c =
     let m = words_of c.args.fram.now.words in

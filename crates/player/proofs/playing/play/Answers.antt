@@ -38,7 +38,8 @@ returns g c =
     record {
       plays =
           subst (λ (r : List Record). MatchResult c.cycles-ended.result
-          (λ kind. Keeps (origin c.args.fram.now w c.args.book.now.records) (IsOver kind) IsAny (now r c.cycles-ended.new.fram w2))
+          (λ kind. Keeps (origin c.args.fram.now w c.args.book.now.records) (IsOver kind) IsAny
+          (now r c.cycles-ended.new.fram w2))
           (λ e. Keeps (origin c.args.fram.now w c.args.book.now.records) IsWhole IsAny (now r c.cycles-ended.new.fram w2)))
           (sym c.from_vec.ensures)
           (subst (λ (r : List Record). MatchResult c.cycles-ended.result

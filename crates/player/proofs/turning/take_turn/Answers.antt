@@ -1,5 +1,5 @@
 -- One instruction, with the service that it calls, leads from where the program goes to where the turn says.
-use Rattle.std.proofs.Common.{◌≡◌, false, Result, Ok, Err, OnOk, is_err, sym, subst, refl}
+use Rattle.std.proofs.Common.{◌≡◌, false, Result, Ok, Err, OnOk, is_err, sym, subst}
 use Rattle.world.specs.World.{Spends}
 use Rattle.player.specs.Playing.{now}
 use Rattle.player.specs.Turning.{Goes}
