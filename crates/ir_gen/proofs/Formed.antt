@@ -1,0 +1,185 @@
+-- The form that is made of a program serves it.
+use Rattle.std.proofs.Common.{◌≡◌, ℕ, zero, suc, ◌+◌, List, [], ◌∷◌, ◌++◌, length, map, take, Option, Some, None, true, refl, sym, ap, ◌∙◌, subst, arith}
+use Rattle.std.specs.Prelude.{slice_get}
+use Rattle.base16.specs.declared.image.Kind.{Kind}
+use Rattle.core_tree.specs.declared.program.Core.{Core}
+use Rattle.core_tree.specs.declared.program.Function.{Function}
+use Rattle.core_tree.specs.declared.program.Global.{Global}
+use Rattle.core_tree.specs.declared.program.Initial.{Initial}
+use Rattle.core_tree.specs.declared.types.Struct.{Struct}
+use Rattle.core_tree.specs.declared.types.Ty.{Ty}
+use Rattle.core_tree.specs.declared.types.Slot.{Slot}
+use Rattle.core_tree.specs.Layout.{layout, kind_of}
+use Rattle.c_values.specs.declared.value.Value.TheVariants.{Undefined}
+use Rattle.c_values.specs.declared.value.Cell.{Cell}
+use Rattle.c_values.specs.declared.state.Object.{Object}
+use Rattle.c_meaning.specs.After as after
+use Rattle.c_meaning.specs.Stamps.{slots_of, stamps_if}
+use Rattle.ir.specs.declared.form.IrFunction.{IrFunction}
+use Rattle.ir.specs.declared.form.IrLocal.{IrLocal}
+use Rattle.ir.specs.declared.form.Step.{Step}
+use Rattle.ir.specs.Machine as m
+use Rattle.ir.specs.Jumps.{JumpsAhead}
+use Rattle.ir.proofs.Once.{steps_once}
+use Rattle.ir_gen.specs.Built.{stmts}
+use Rattle.ir_gen.specs.Form as f
+use Rattle.ir_gen.specs.Form.{IsBuilt, AreBuilt, AreScalars, form_of, function_of, locals_from, globals_from}
+use Rattle.ir_gen.specs.Serves.{Serves, ServesFunction}
+use Rattle.ir_gen.proofs.Calls.{Made, stands_self}
+use Rattle.ir_gen.proofs.Order.{function_ordered}
+use Rattle.ir_gen.proofs.Served.{FormOf, same_states}
+
+abbrev slots_in : IrLocal → List Slot
+slots_in l = l.scalars
+
+all_slots : (structs : List Struct) (x : Function) (n : ℕ) (ts : List Ty) → map slots_in (locals_from structs x n ts)
+    ≡ map (λ t. (layout structs t).slots) ts
+all_slots structs x n [] = refl
+all_slots structs x n (t ∷ ts) = ap (λ l. (layout structs t).slots ∷ l) (all_slots structs x (n + 1) ts)
+
+abbrev kind_first : IrLocal → Kind
+kind_first l = m.first_kind l.scalars
+
+all_kinds : (structs : List Struct) (x : Function) (n : ℕ) (ps ls : List Ty) → AreScalars structs ps
+    → map kind_first (take (length ps) (locals_from structs x n (ps ++ ls))) ≡ map kind_of ps
+all_kinds structs x n [] ls h = refl
+all_kinds structs x n (t ∷ ps) ls h =
+    ap (λ k. k ∷ map kind_first (take (length ps) (locals_from structs x (n + 1) (ps ++ ls)))) h.0
+    ∙ ap (λ l. kind_of t ∷ l) (all_kinds structs x (n + 1) ps ls h.1)
+
+made_of : (core : Core) (x : Function) → AreScalars core.structs x.params → stmts x.body ≡ true
+    → Made core x (function_of core.structs x)
+made_of core x h fine = record {
+  frame = refl;
+  slots = all_slots core.structs x 0 (x.params ++ x.locals);
+  kinds = all_kinds core.structs x 0 x.params x.locals h;
+  steps = refl;
+  built = fine;
+}
+
+serves_of : (core : Core) (x : Function) → ServesFunction core x (function_of core.structs x)
+serves_of core x = record { frame = refl; params = refl; locals = refl }
+
+function_in : (structs : List Struct) (xs : List Function) (n : ℕ) (x : Function) → slice_get xs n ≡ Some x
+    → slice_get (map (function_of structs) xs) n ≡ Some (function_of structs x)
+function_in structs [] n x e = absurd (grind (arith, e))
+function_in structs (y ∷ xs) zero x e = ap (λ z. Some (function_of structs z)) (ap (or_this y) e)
+  where
+    or_this : Function → Option Function → Function
+    or_this d None = d
+    or_this d (Some z) = z
+function_in structs (y ∷ xs) (suc n) x e = function_in structs xs n x e
+
+all_made : (core : Core) (xs : List Function) → AreBuilt core.structs xs → (n : ℕ) (x : Function) → slice_get xs n ≡ Some x
+    → Made core x (function_of core.structs x)
+all_made core [] h n x e = absurd (grind (arith, e))
+all_made core (y ∷ xs) h zero x e =
+    let same : y ≡ x = ap (or_this y) e in
+    made_of core x (subst (λ z. AreScalars core.structs z.params) same h.0) (subst (λ z. stmts z.body ≡ true) same h.1)
+  where
+    or_this : Function → Option Function → Function
+    or_this d None = d
+    or_this d (Some z) = z
+all_made core (y ∷ xs) h (suc n) x e = all_made core xs h.2 n x e
+
+ordered_in : (structs : List Struct) (xs : List Function) (n p : ℕ) (fn : IrFunction) (s : Step)
+    → slice_get (map (function_of structs) xs) n ≡ Some fn → slice_get fn.steps p ≡ Some s → JumpsAhead fn p s.kind
+ordered_in structs [] n p fn s e g = absurd (grind (arith, e))
+ordered_in structs (y ∷ xs) zero p fn s e g =
+    let same : fn ≡ function_of structs y = sym (ap (or_this fn) e) in
+    function_ordered structs (after.objects_of structs y) (after.is_main y) (length y.params) y.node y.body fn
+    (ap (λ (z : IrFunction). z.steps) same) (stands_self fn.steps) p s g
+  where
+    or_this : IrFunction → Option IrFunction → IrFunction
+    or_this d None = d
+    or_this d (Some z) = z
+ordered_in structs (y ∷ xs) (suc n) p fn s e g = ordered_in structs xs n p fn s e g
+
+no_values : (ss : List Slot) → m.initial_cells ss [] ≡ after.initial_cells ss []
+no_values [] = refl
+no_values (t ∷ ts) = ap (λ (l : List Cell). record { offset = t.offset; kind = t.kind; value = Undefined } ∷ l) (no_values ts)
+
+same_cells : (ss : List Slot) (is : List Initial) → m.initial_cells ss (f.initial_values ss is) ≡ after.initial_cells ss is
+same_cells [] is = refl
+same_cells (s ∷ ss) [] = ap (λ (l : List Cell). record { offset = s.offset; kind = s.kind; value = Undefined } ∷ l)
+    (no_values ss)
+same_cells (s ∷ ss) (i ∷ is) = ap (λ (l : List Cell). record
+    { offset = s.offset; kind = s.kind; value = after.initial_value s.kind i } ∷ l) (same_cells ss is)
+
+same_objects : (core : Core) (n k : ℕ) (gs : List Global) → m.initial_objects n (globals_from core k gs)
+    ≡ after.initial_objects core.structs n gs
+same_objects core n k [] = refl
+same_objects core n k (g ∷ gs) =
+    ap (λ cs. record { number = n; cells = cs } ∷ m.initial_objects (n + 1) (globals_from core (k + 1) gs))
+    (same_cells (slots_of core.structs g) g.init)
+    ∙ ap (λ l. record { number = n; cells = after.initial_cells (slots_of core.structs g) g.init } ∷ l)
+    (same_objects core (n + 1) (k + 1) gs)
+
+same_none : (n : ℕ) → m.no_stamps n ≡ after.no_stamps n
+same_none zero = refl
+same_none (suc n) = ap (λ (l : List (Option ℕ)). None ∷ l) (same_none n)
+
+same_count : (structs : List Struct) (g : Global) (o : Option ℕ) → m.stamps_if (slots_of structs g) o ≡ stamps_if structs g o
+same_count structs g None = refl
+same_count structs g (Some t) = refl
+
+same_stamps : (core : Core) (k : ℕ) (gs : List Global) → m.initial_stamps (globals_from core k gs)
+    ≡ after.initial_stamps core.structs gs
+same_stamps core k [] = refl
+same_stamps core k (g ∷ gs) =
+    let rest = m.initial_stamps (globals_from core (k + 1) gs) in
+    ap (λ n. m.no_stamps n ++ rest) (same_count core.structs g g.lifetime)
+    ∙ (ap (λ l. l ++ rest) (same_none (stamps_if core.structs g g.lifetime))
+    ∙ ap (λ l. after.no_stamps (stamps_if core.structs g g.lifetime) ++ l) (same_stamps core (k + 1) gs))
+
+same_many : (core : Core) (k : ℕ) (gs : List Global) → length (globals_from core k gs) ≡ length gs
+same_many core k [] = refl
+same_many core k (g ∷ gs) = ap suc (same_many core (k + 1) gs)
+
+same_start : (core : Core) → m.start (form_of core) ≡ after.start core
+unfolding m.start after.start
+same_start core =
+    ap (λ (os : List Object). record {
+      globals = os;
+      calls = [];
+      stamps
+          = m.initial_stamps (globals_from core 0 core.globals);
+      outputs = [];
+      block = None;
+      marks = 0;
+    })
+    (same_objects core 0 0 core.globals)
+    ∙ ap (λ (l : List (Option ℕ)). record {
+      globals = after.initial_objects core.structs 0 core.globals;
+      calls = [];
+      stamps
+          = l;
+      outputs = [];
+      block = None;
+      marks = 0;
+    }) (same_stamps core 0 core.globals)
+
+form_is : (core : Core) → IsBuilt core → FormOf core (form_of core)
+form_is core h = record {
+  functions = λ n x e. (
+    function_of core.structs x,
+    function_in core.structs core.functions n x e,
+    all_made core core.functions
+        h.functions n x e,
+  );
+  main = h.main;
+  start = same_start core;
+  objects = same_many core 0 core.globals;
+  ordered = λ n p fn s e g. ordered_in core.structs core.functions n p fn s e g;
+}
+
+-- the form that is made of a program serves it
+pub form_serves : (core : Core) → IsBuilt core → Serves core (form_of core)
+form_serves core h =
+    let form = form_is core h in
+    record {
+      same = same_states core (form_of core) form;
+      functions = λ n x e. (function_of core.structs x, function_in core.structs core.functions n x e, serves_of core x);
+      globals = refl;
+      once = λ rs. steps_once (form_of core) rs form.ordered;
+    }

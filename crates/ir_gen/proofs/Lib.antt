@@ -1,0 +1,10 @@
+pub mod Doing
+pub mod Expressions
+pub mod Tree
+pub mod Statements
+pub mod Switch
+pub mod StmtTree
+pub mod Calls
+pub mod Order
+pub mod Served
+pub mod Formed

@@ -1,0 +1,5 @@
+pub mod Code
+pub mod Body
+pub mod Built
+pub mod Form
+pub mod Serves

@@ -1,0 +1,6 @@
+//! The three-address form of a program: what its steps are, and that the form serves the program.
+#![tactic(auto)]
+
+mod laws;
+
+pub use laws::forms_serve_their_programs;
