@@ -1,3 +1,4 @@
 pub mod Begins
 pub mod Deeper
 pub mod Ends
+pub mod Rules

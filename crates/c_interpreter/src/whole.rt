@@ -1,8 +1,10 @@
 //! The run of a whole program.
 
-ghost use Rattle.std.specs.Prelude.{◌≡◌, ◌-◌, ◌<◌, length, slice_get, Some, IfOk};
+ghost use Rattle.std.specs.Prelude.{◌≡◌, ◌-◌, ◌<◌, Bool, length, slice_get, Some, IfOk};
+ghost use Rattle.core_tree.specs.LawfulCore.{IsLawful};
 ghost use Rattle.c_run.specs.Gives.{Gives};
 ghost use Rattle.c_meaning.specs.After as spec;
+ghost use Rattle.c_soundness.specs.Rules.{IsByTheRules};
 ghost use Rattle.c_interpreter.specs.Ending.{main_body, IsShown};
 
 use crate::calls::{function_of, run_body};
@@ -129,8 +131,9 @@ fn run_program(
     run_main(alloc, program, readings, number, function, marks)
 }
 
-/// The state of a program just after a number of marks on a list of readings, or how its run stopped earlier. A call of
-/// a function takes a few frames of the stack, and one more for each level of its tree.
+/// The state of a program just after a number of marks on a list of readings, or how its run stopped earlier; where that was
+/// undefined and the program is lawful, a rule from 1 to 12 at one of its nodes. A call of a function takes a few frames of
+/// the stack, and one more for each level of its tree.
 ///
 /// # Errors
 /// `NoMemory` if memory runs out.
@@ -140,7 +143,8 @@ pub fn meaning(
     readings: &[Reading],
     marks: u32,
 ) -> Result<CState, NoMemory>
-    ensures { IfOk result (λ state. state ≡ spec.after core.now readings.now marks) }
+    ensures run { IfOk result (λ state. state ≡ spec.after core.now readings.now marks) }
+    ensures rules { (annotated : Bool) → IsLawful annotated core.now → IfOk result (λ state. IsByTheRules core.now state) }
 {
     let program = Program::new(alloc, core)?;
     run_program(alloc, &program, readings, marks)

@@ -6,3 +6,4 @@ pub mod CommandLaws
 pub mod PrintLaws
 pub mod OutcomeLaws
 pub mod HeldLaws
+pub mod RuleLaws

@@ -1,5 +1,5 @@
 -- What a call of the program comes to.
-use Rattle.std.specs.Prelude.{◌≡◌, ◌≢◌, ℕ, ◌⊎◌, List, [], ◌∷◌, ◌++◌, Option, Some, None, Result, Ok, Err, codes}
+use Rattle.std.specs.Prelude.{◌≡◌, ◌≢◌, ℕ, ◌⊎◌, List, [], ◌∷◌, ◌++◌, Option, Some, None, MatchOption, Result, Ok, Err, codes}
 use Rattle.edge.specs.Counts.{HasRisen}
 use Rattle.edge.specs.Told.{Drive, Appends, AppendsFront}
 use Rattle.edge.specs.declared.sink.SinkErr.{SinkErr}
@@ -7,6 +7,7 @@ use Rattle.edge.specs.declared.sink.SinkErr.TheVariants.{Failed, NoMemory as Sin
 use Rattle.base16.specs.declared.reading.Reading.{Reading}
 use Rattle.world.specs.declared.history.Record.{Record}
 use Rattle.core_tree.specs.declared.program.Typed.{Typed}
+use Rattle.c_soundness.specs.Rules.{MeetsOnlyTheRules}
 use Rattle.tics_call.specs.declared.outcome.Outcome.{Outcome}
 use Rattle.tics_call.specs.declared.outcome.Outcome.TheVariants.{Done, Told, Refused, Usage, ReadingsRefused, ReadFault, WriteFault, NoMemory, Unsupported}
 use Rattle.tics_front.specs.declared.fault.SourceFault.{SourceFault}
@@ -17,7 +18,7 @@ use Rattle.tics_call.specs.Run.{history_of, symbols_of}
 use Rattle.tics_front.specs.Held.{HoldsAt}
 use Rattle.tics_front.specs.Source.{refusal_text}
 use Rattle.tics_meaning.specs.declared.fault.ReadingsFault.{ReadingsFault}
-use Rattle.tics_meaning.specs.Meant.{Refuses, IsAsked, RefusesReadings, HasNoMeaning, NamesMeaningRead, readings_text, meaning_text}
+use Rattle.tics_meaning.specs.Meant.{Refuses, IsAsked, RefusesReadings, HasNoMeaning, NamesMeaningRead, readings_text, meaning_marks, meaning_text}
 use Rattle.tics_call.specs.Command.{Order, IsRunOf, IsMeaningOf, IsEitherOf}
 
 -- ---- the texts
@@ -118,6 +119,12 @@ pub record HasRun (files : Option Drive) (command : Option Order) (records : Lis
 -- a meaning was asked for, of a program and readings
 abbrev pub AsksMeaning : Option Drive → Option Order → Typed → List Reading → Type 0
 AsksMeaning files command typed readings = IsMeaningOf command (λ c. IsAsked files c typed readings)
+
+-- Where files are told, the run of a program whose meaning is asked for is undefined only where one of the rules from 1 to 12 is
+-- broken, at one of its nodes.
+abbrev pub MeaningsAreByTheRules : Option Drive → Option Order → Type 0
+MeaningsAreByTheRules files command = (typed : Typed) → (readings : List Reading) → AsksMeaning files command typed readings
+    → MatchOption files (Unit {0}) (λ drive. MeetsOnlyTheRules typed.core readings meaning_marks)
 
 -- the texts that a call may have begun to print, each with its cause
 pub data IsText (files : Option Drive) (command : Option Order) (faults faults_after : ℕ)

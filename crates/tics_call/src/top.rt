@@ -11,7 +11,7 @@ ghost use Rattle.tics_call.specs.declared.source.Program.{Program};
 ghost use Rattle.tics_call.specs.Command.{Run, Meaning, texts, command_of};
 ghost use Rattle.tics_call.specs.Form.{IsProgram};
 ghost use Rattle.tics_call.specs.Run.{history_of};
-ghost use Rattle.tics_call.specs.Outcome.{ComesTo, seen_by, HasDone, HasRun, IsStatus, RefusesSource, RefusesItsReadings, NamesItsRead, IsNotBuilt, IsFrontOfText, report_of, usage_text, fault_text, unsupported_text};
+ghost use Rattle.tics_call.specs.Outcome.{ComesTo, seen_by, HasDone, HasRun, IsStatus, RefusesSource, RefusesItsReadings, NamesItsRead, IsNotBuilt, IsFrontOfText, MeaningsAreByTheRules, report_of, usage_text, fault_text, unsupported_text};
 
 use crate::accept::{Refusal, accept};
 use crate::command::{Verb, command};
@@ -143,6 +143,7 @@ fn perform<F: Files, K: Sink>(
 /// status: 0 where that was done, 1 where the source is refused, 2 where the words are no command, 3 where the readings are
 /// refused, 8 where a read and 9 where a put answered a fault, 10 for want of memory, 13 where the source or the trace is in
 /// no form that is built yet. The board's memory is not used yet.
+#[tactic(auto, using(crate::proofs::RuleLaws::meanings_by_the_rules))]
 pub fn tics<F: Files, K: Sink>(
     alloc: Global,
     words: &Vec<String>,
@@ -158,6 +159,9 @@ pub fn tics<F: Files, K: Sink>(
     // 0: what was asked for was done, and the text of that was put.
     ensures done { result ≡ 0 → HasDone (F.contents files.old) (command_of (texts words.now.items)) book.new.records
         (K.bytes out.old) (K.bytes out.new) }
+
+    // A program whose meaning is asked for is undefined only where one of the rules is broken, at one of its nodes.
+    ensures rules { MeaningsAreByTheRules (F.contents files.old) (command_of (texts words.now.items)) }
 
     // 1: the source has a fault, of its text, of its size or by the rules of the language, and what was put is its line.
     ensures refused { result ≡ 1 → (fault : ASourceFault)
