@@ -27,6 +27,7 @@ use Rattle.ir_gen.specs.Form.{IsBuilt, AreBuilt, AreScalars, form_of, function_o
 use Rattle.ir_gen.specs.Serves.{Serves, ServesFunction}
 use Rattle.ir_gen.proofs.Calls.{Made, stands_self}
 use Rattle.ir_gen.proofs.Order.{function_ordered}
+use Rattle.ir_gen.proofs.StmtRows.{function_fits}
 use Rattle.ir_gen.proofs.Served.{FormOf, same_states}
 
 abbrev slots_in : IrLocal → List Slot
@@ -58,7 +59,15 @@ made_of core x h fine = record {
 }
 
 serves_of : (core : Core) (x : Function) → ServesFunction core x (function_of core.structs x)
-serves_of core x = record { frame = refl; params = refl; locals = refl }
+serves_of core x = record {
+  frame = refl;
+  params = refl;
+  locals = refl;
+  fits = record {
+    bytes = λ w. (function_fits w core.structs (after.objects_of core.structs x) (after.is_main x) x).bytes_in;
+    helpers = λ w. (function_fits w core.structs (after.objects_of core.structs x) (after.is_main x) x).helped_in;
+  };
+}
 
 function_in : (structs : List Struct) (xs : List Function) (n : ℕ) (x : Function) → slice_get xs n ≡ Some x
     → slice_get (map (function_of structs) xs) n ≡ Some (function_of structs x)

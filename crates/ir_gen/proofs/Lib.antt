@@ -8,3 +8,6 @@ pub mod Calls
 pub mod Order
 pub mod Served
 pub mod Formed
+pub mod Weighing
+pub mod Rows
+pub mod StmtRows

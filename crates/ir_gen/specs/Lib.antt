@@ -3,3 +3,4 @@ pub mod Body
 pub mod Built
 pub mod Form
 pub mod Serves
+pub mod Sizes

@@ -1,5 +1,5 @@
 -- A form serves a program: its run has the same states after the same marks and the same stops, it has the program's
--- functions and variables, and between two marks it makes no step twice.
+-- functions and variables, its steps are no longer than the cost table says, and between two marks it makes no step twice.
 use Rattle.std.specs.Prelude.{◌≡◌, ℕ, List, ◌++◌, length, Some, slice_get}
 use Rattle.base16.specs.declared.reading.Reading.{Reading}
 use Rattle.core_tree.specs.declared.program.Core.{Core}
@@ -15,6 +15,7 @@ use Rattle.ir.specs.declared.form.IrState.TheVariants as form
 use Rattle.ir.specs.Machine as m
 use Rattle.ir.specs.Laws.{MakesStepsOnce}
 use Rattle.ir_gen.specs.Form.{locals_from, globals_from}
+use Rattle.ir_gen.specs.Sizes.{FitsRows}
 
 -- no rule is broken
 abbrev pub IsDefined : CState → Type 0
@@ -38,6 +39,8 @@ pub record ServesFunction (core : Core) (x : Function) (fn : IrFunction) : Type 
   pub frame : fn.frame ≡ frame_bytes core.structs x
   pub params : fn.params ≡ length x.params
   pub locals : fn.locals ≡ locals_from core.structs x 0 (x.params ++ x.locals)
+  -- the steps of each node fit its row of the cost table and use one helper routine at most
+  pub fits : FitsRows x fn.steps
 
 pub record Serves (core : Core) (ir : Ir) : Type 0 where
   pub same : SameStates core ir

@@ -3,7 +3,8 @@ ghost use Rattle.ir_gen.specs.Form.{IsBuilt, form_of};
 ghost use Rattle.ir_gen.specs.Serves.{Serves};
 
 /// The form of a program serves it: the form's run has the program's states and stops, it has the functions and variables
-/// of the program, and between two marks it makes no step twice.
+/// of the program, the steps of a node are no longer than its row of the cost table, and between two marks no step is made
+/// twice.
 pub fn forms_serve_their_programs()
     ensures { (core : Core) → IsBuilt core → Serves core (form_of core) }
 {}
