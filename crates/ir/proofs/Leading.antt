@@ -1,5 +1,5 @@
 -- What leads to what in a run of a form: the joints of proofs that a form does what something else does.
-use Rattle.std.proofs.Common.{◌≡◌, ℕ, zero, suc, ◌+◌, List, [], ◌∷◌, ◌++◌, length, Some, Result, Ok, Err, true, refl, sym, ap, ◌∙◌, subst, arith, cond}
+use Rattle.std.proofs.Common.{◌≡◌, ℕ, zero, suc, ◌+◌, List, [], ◌∷◌, ◌++◌, length, Some, Result, Ok, Err, true, refl, ap, ◌∙◌, subst, arith, cond}
 use Rattle.std.proofs.lemmas.Bool.Decides.{nat_tests}
 use Rattle.std.specs.Prelude.{slice_get, nat_eq}
 use Rattle.base16.specs.declared.reading.Reading.{Reading}
@@ -11,7 +11,8 @@ use Rattle.ir.specs.declared.form.Step.{Step}
 use Rattle.ir.specs.declared.control.Temporary.TheVariants as temporary
 use Rattle.ir.specs.Machine as m
 use Rattle.ir.specs.Machine.{Control, At, Calling, Returning, Frame, Temporary}
-use Rattle.ir.specs.Ends.{IsFine, live, ended, needs, Ends, over, then_on}
+use Rattle.ir.specs.Ends.{IsFine, live, ended, needs, Ends, then_on, over as ended_so}
+use Rattle.ir.proofs.Holding.{Holds, over, holds_step}
 
 -- these steps stand at this place
 abbrev pub Stands : List Step → ℕ → List Step → Type 0
@@ -35,39 +36,44 @@ pub data Gives {A : Type 0} (P : A → Type 0) : Outcome A → Type 0 where
   stopped : {s : Stop} → Gives P (Stopped s)
 
 module _ (ir : Ir) (rs : List Reading) where
-  -- what ends so from the second, ends so from the first
-  abbrev pub Leads : Outcome Control → Outcome Control → Type 0
-  Leads o p = (s : Stop) → Ends ir rs p s → Ends ir rs o s
+  -- what ends so from the second, ends so from the first, where objects are as they came to life; and so they are at the second
+  pub record Leads (o p : Outcome Control) : Type 0 where
+    pub holds : Holds ir o → Holds ir p
+    pub ends : Holds ir o → (s : Stop) → Ends ir rs p s → Ends ir rs o s
 
   pub leads_stop : (s t : Stop) → Ends ir rs (Stopped s) t → s ≡ t
-  leads_stop s t (over f) = refl
+  leads_stop s t (ended_so f) = refl
 
   pub leads_same : (o : Outcome Control) → Leads o o
-  leads_same o = λ s e. e
+  leads_same o = record { holds = λ h. h; ends = λ h s e. e }
 
   pub leads_step : (c : Control) (r : Run) → Leads (Went c r) (m.one_step ir rs c r)
-  leads_step c r = λ s e. then_on e
+  leads_step c r = record { holds = holds_step ir rs c r; ends = λ h s e. then_on e }
 
   pub leads_by : (o p q : Outcome Control) → Leads o p → Leads p q → Leads o q
-  leads_by o p q a b = λ s e. a s (b s e)
+  leads_by o p q a b = record { holds = λ h. b.holds (a.holds h); ends = λ h s e. a.ends h s (b.ends (a.holds h) s e) }
+
+  -- the objects may be looked at
+  pub leads_known : (o p : Outcome Control) → (Holds ir o → Leads o p) → Leads o p
+  leads_known o p f = record { holds = λ h. (f h).holds h; ends = λ h. (f h).ends h }
 
   -- what follows an action may be led on, and so may what follows the rest of an action
   pub led : {A : Type 0} (o : Outcome A) (f g : A → Action Control) → ((a : A) (q : Run) → Leads (f a q) (g a q))
       → Leads (and_then o f) (and_then o g)
   led (Went a q) f g h = h a q
-  led (Stopped s) f g h = λ t e. e
+  led (Stopped s) f g h = leads_same (Stopped s)
 
   pub chain : {A B : Type 0} (o : Outcome A) (f : A → Action B) (k : B → Action Control) (g : A → Action Control)
       → ((a : A) (q : Run) → Leads (g a q) (and_then (f a q) k)) → Leads (and_then o g) (and_then (and_then o f) k)
   chain (Went a q) f k g h = h a q
-  chain (Stopped s) f k g h = λ t e. e
+  chain (Stopped s) f k g h = leads_same (Stopped s)
 
   pub chain_given : {A B : Type 0} (P : A → Type 0) (o : Outcome A) (f : A → Action B) (k : B → Action Control) (g : A
       → Action Control)
       → Gives P o → ((a : A) (q : Run) → P a → Leads (g a q) (and_then (f a q) k))
       → Leads (and_then o g) (and_then (and_then o f) k)
   chain_given P (Went a q) f k g (gave p) h = h a q p
-  chain_given P (Stopped s) f k g w h = λ t e. e
+  chain_given P (Stopped s) f k g w h = leads_same (Stopped s)
 
   abbrev FineStop : Stop → Type 0
   FineStop (Live s used) = Unit {0}
@@ -82,7 +88,7 @@ module _ (ir : Ir) (rs : List Reading) where
   fine_stop needs = tt
 
   ended_fine : {s t : Stop} → Ends ir rs (Stopped s) t → FineStop s
-  ended_fine (over f) = fine_stop f
+  ended_fine (ended_so f) = fine_stop f
 
   not_broken : (n node : ℕ) → FineStop (broken n node) → ⊥
   not_broken zero node h = h
@@ -90,20 +96,24 @@ module _ (ir : Ir) (rs : List Reading) where
 
   -- nothing is asked where what is followed is wrong
   pub past_wrong : (o : Outcome Control) → Leads o (Stopped Wrong)
-  past_wrong o = λ t e. absurd (not_broken 0 0 (ended_fine e))
+  past_wrong o = record { holds = λ h. over; ends = λ h t e. absurd (not_broken 0 0 (ended_fine e)) }
 
   -- what is asked besides costs no step, since nothing is said where a rule is broken
   pub past_given : {A : Type 0} (node : ℕ) (x : Result A ℕ) (o : Outcome Control) (k : A → Action Control) (q : Run)
       → ((a : A) → Leads o (k a q)) → Leads o (and_then (given node x q) k)
   past_given node (Ok a) o k q h = h a
-  past_given node (Err n) o k q h = λ t e. absurd (not_broken n node (ended_fine e))
+  past_given node (Err n) o k q h = record {
+    holds = λ i. over;
+    ends = λ i t e. absurd (not_broken n node (ended_fine e));
+  }
 
   module _ (f : ℕ) (fn : IrFunction) (is : slice_get ir.functions f ≡ Some fn) where
     -- the step that stands at a place is made
     pub made : (p first : ℕ) (ts : List Temporary) (below : List Frame) (r : Run) (s : Step) → slice_get fn.steps p ≡ Some s
         → Leads (Went (At f p first ts below) r) (m.act ir rs s.node s.kind f p first ts below r)
     unfolding m.step_in m.found
-    made p first ts below r s e = λ t ends. then_on (subst (λ o. Ends ir rs o t) (sym same) ends)
+    made p first ts below r s e = subst (λ o. Leads (Went (At f p first ts below) r) o) same
+        (leads_step (At f p first ts below) r)
       where
         same : m.one_step ir rs (At f p first ts below) r ≡ m.act ir rs s.node s.kind f p first ts below r
         same = ap (λ o. m.found o (λ g. m.found (slice_get g.steps p) (λ s. m.act ir rs s.node s.kind f p first ts below)) r) is

@@ -32,6 +32,7 @@ use Rattle.ir.proofs.Leading.{Stands, stands_front, stands_back, Leads, leads_by
 use Rattle.ir_gen.specs.Code.{at_node}
 use Rattle.ir_gen.specs.Body as c
 use Rattle.ir_gen.specs.Built as built
+use Rattle.ir_gen.specs.Locals as locals
 use Rattle.ir_gen.proofs.Expressions.{Served, put_constant}
 use Rattle.ir_gen.proofs.Statements as s
 use Rattle.ir_gen.proofs.StmtTree.{sim_stmts}
@@ -44,6 +45,7 @@ pub record Made (core : Core) (x : Function) (fn : IrFunction) : Type 0 where
   pub steps : fn.steps ≡ c.function_steps core.structs (after.objects_of core.structs x) (after.is_main x)
       (length x.params) x.node x.body
   pub built : built.stmts x.body ≡ true
+  pub locals : locals.stmts (length (after.objects_of core.structs x)) x.body ≡ true
 
 stands_all : (is pre : List Step) → Stands (pre ++ is) (length pre) is
 stands_all [] pre = tt
@@ -145,7 +147,8 @@ module _ (core : Core) (rs : List Reading) (ir : Ir)
       run_body : (r : Run) → Leads ir rs (Went (At n 1 first [] below) r)
           (and_then (st.stmts core rs call first x.body None r) (ending below))
       run_body r =
-          let h = sim_stmts core rs call first ir (after.objects_of core.structs x) n fn is below served x.body mk.built in
+          let h = sim_stmts core rs call first ir (after.objects_of core.structs x) n fn is below served mk.slots x.body mk.built
+          mk.locals in
           let even = h.even 1 (1 + size) (1 + size) in
           let mine = stands_front fn.steps 1 ((c.stmts core.structs (after.objects_of core.structs x) x.body).steps 1 (1 + size)
           (1 + size)) _ all_stand.1 in

@@ -23,7 +23,8 @@ use Rattle.ir.specs.Jumps.{JumpsAhead}
 use Rattle.ir.proofs.Once.{steps_once}
 use Rattle.ir_gen.specs.Built.{stmts}
 use Rattle.ir_gen.specs.Form as f
-use Rattle.ir_gen.specs.Form.{IsBuilt, AreBuilt, AreScalars, form_of, function_of, locals_from, globals_from}
+use Rattle.ir_gen.specs.Locals as locals
+use Rattle.ir_gen.specs.Form.{IsBuilt, AreBuilt, AreScalars, DeclareTheirOwn, form_of, function_of, locals_from, globals_from}
 use Rattle.ir_gen.specs.Serves.{Serves, ServesFunction}
 use Rattle.ir_gen.proofs.Calls.{Made, stands_self}
 use Rattle.ir_gen.proofs.Order.{function_ordered}
@@ -48,14 +49,19 @@ all_kinds structs x n (t ∷ ps) ls h =
     ap (λ k. k ∷ map kind_first (take (length ps) (locals_from structs x (n + 1) (ps ++ ls)))) h.0
     ∙ ap (λ l. kind_of t ∷ l) (all_kinds structs x (n + 1) ps ls h.1)
 
+many_objects : (structs : List Struct) (ts : List Ty) → length ts ≡ length (map (λ t. (layout structs t).slots) ts)
+many_objects structs [] = refl
+many_objects structs (t ∷ ts) = ap suc (many_objects structs ts)
+
 made_of : (core : Core) (x : Function) → AreScalars core.structs x.params → stmts x.body ≡ true
-    → Made core x (function_of core.structs x)
-made_of core x h fine = record {
+    → locals.stmts (length (x.params ++ x.locals)) x.body ≡ true → Made core x (function_of core.structs x)
+made_of core x h fine ours = record {
   frame = refl;
   slots = all_slots core.structs x 0 (x.params ++ x.locals);
   kinds = all_kinds core.structs x 0 x.params x.locals h;
   steps = refl;
   built = fine;
+  locals = subst (λ n. locals.stmts n x.body ≡ true) (many_objects core.structs (x.params ++ x.locals)) ours;
 }
 
 serves_of : (core : Core) (x : Function) → ServesFunction core x (function_of core.structs x)
@@ -79,17 +85,18 @@ function_in structs (y ∷ xs) zero x e = ap (λ z. Some (function_of structs z)
     or_this d (Some z) = z
 function_in structs (y ∷ xs) (suc n) x e = function_in structs xs n x e
 
-all_made : (core : Core) (xs : List Function) → AreBuilt core.structs xs → (n : ℕ) (x : Function) → slice_get xs n ≡ Some x
-    → Made core x (function_of core.structs x)
-all_made core [] h n x e = absurd (grind (arith, e))
-all_made core (y ∷ xs) h zero x e =
+all_made : (core : Core) (xs : List Function) → AreBuilt core.structs xs → DeclareTheirOwn xs → (n : ℕ) (x : Function)
+    → slice_get xs n ≡ Some x → Made core x (function_of core.structs x)
+all_made core [] h own n x e = absurd (grind (arith, e))
+all_made core (y ∷ xs) h own zero x e =
     let same : y ≡ x = ap (or_this y) e in
     made_of core x (subst (λ z. AreScalars core.structs z.params) same h.0) (subst (λ z. stmts z.body ≡ true) same h.1)
+    (subst (λ z. locals.stmts (length (z.params ++ z.locals)) z.body ≡ true) same own.0)
   where
     or_this : Function → Option Function → Function
     or_this d None = d
     or_this d (Some z) = z
-all_made core (y ∷ xs) h (suc n) x e = all_made core xs h.2 n x e
+all_made core (y ∷ xs) h own (suc n) x e = all_made core xs h.2 own.1 n x e
 
 ordered_in : (structs : List Struct) (xs : List Function) (n p : ℕ) (fn : IrFunction) (s : Step)
     → slice_get (map (function_of structs) xs) n ≡ Some fn → slice_get fn.steps p ≡ Some s → JumpsAhead fn p s.kind
@@ -174,7 +181,7 @@ form_is core h = record {
     function_of core.structs x,
     function_in core.structs core.functions n x e,
     all_made core core.functions
-        h.functions n x e,
+        h.functions h.locals n x e,
   );
   main = h.main;
   start = same_start core;

@@ -2,6 +2,7 @@ pub mod Doing
 pub mod Expressions
 pub mod Tree
 pub mod Statements
+pub mod Initialising
 pub mod Switch
 pub mod StmtTree
 pub mod Calls

@@ -14,6 +14,7 @@ use Rattle.ir.specs.Machine as m
 use Rattle.ir.specs.Ends.{IsFine, live, ended, needs, Ends, over}
 use Rattle.ir.specs.Jumps.{IsOrdered}
 use Rattle.ir.proofs.Bounded.{within_the_bound}
+use Rattle.ir.proofs.Holding.{Holds, start_holds}
 use Rattle.ir_gen.specs.Serves.{SameStates, IsDefined, as_form}
 use Rattle.ir_gen.proofs.Calls.{Made, main_run}
 
@@ -37,18 +38,18 @@ not_wrong needs = tt
 
 module _ (core : Core) (ir : Ir) (form : FormOf core ir) (rs : List Reading) where
   from_main : (n : ℕ) (x : Function) → slice_get core.functions n ≡ Some x → (r : Run) (o : Outcome (Unit {0}))
-      → after.main_in core rs n (Some x) r ≡ o → IsFine (after.stop_of core rs o)
+      → after.main_in core rs n (Some x) r ≡ o → IsFine (after.stop_of core rs o) → Holds ir (Went (Calling n 0 [] []) r)
       → Ends ir rs (Went (Calling n 0 [] []) r) (after.stop_of core rs o)
-  from_main n x e r (Went u q) h fine = absurd (not_wrong fine)
-  from_main n x e r (Stopped t) h fine =
-      main_run core rs ir form.functions n x e r t (subst (λ o. Ends ir rs (and_then o (λ u. m.stuck)) t) (sym h) (over fine))
+  from_main n x e r (Went u q) h fine holds = absurd (not_wrong fine)
+  from_main n x e r (Stopped t) h fine holds = (main_run core rs ir form.functions n x e r).ends holds t
+      (subst (λ o. Ends ir rs (and_then o (λ u. m.stuck)) t) (sym h) (over fine))
 
   from_function : (n : ℕ) (r : Run) (o : Option Function) → slice_get core.functions n ≡ o
-      → IsFine (after.stop_of core rs (after.main_in core rs n o r))
+      → IsFine (after.stop_of core rs (after.main_in core rs n o r)) → Holds ir (Went (Calling n 0 [] []) r)
       → Ends ir rs (Went (Calling n 0 [] []) r) (after.stop_of core rs (after.main_in core rs n o r))
   unfolding after.main_in
-  from_function n r None e fine = absurd (not_wrong fine)
-  from_function n r (Some x) e fine = from_main n x e r (after.main_in core rs n (Some x) r) refl fine
+  from_function n r None e fine holds = absurd (not_wrong fine)
+  from_function n r (Some x) e fine holds = from_main n x e r (after.main_in core rs n (Some x) r) refl fine holds
 
   same_start : (n : ℕ) → m.start_run ir n ≡ after.start_run core rs n
   same_start n = ap (λ (s : State). record { state = s; used = 0; left = n; next = length ir.globals }) form.start
@@ -66,7 +67,8 @@ module _ (core : Core) (ir : Ir) (form : FormOf core ir) (rs : List Reading) whe
       subst (λ r. Ends ir rs (Went (Calling ir.main 0 [] []) r) (after.stop_at core rs (suc n))) (sym (same_start n))
       (subst (λ s. Ends ir rs (Went (Calling ir.main 0 [] []) (after.start_run core rs n)) s) (sym (main_is n))
       (from_function ir.main (after.start_run core rs n) (slice_get core.functions ir.main) refl
-      (subst IsFine (main_is n) fine)))
+      (subst IsFine (main_is n) fine)
+      (subst (λ r. Holds ir (Went (Calling ir.main 0 [] []) r)) (same_start n) (start_holds ir ir.main n))))
 
   pub same_stop : (s : ℕ) → IsFine (after.stop_at core rs s) → m.stop_at ir rs s ≡ after.stop_at core rs s
   unfolding after.stop_at m.stop_at

@@ -64,10 +64,10 @@ abbrev pub if_some : {A : Type 0} → (A → Bool) → Option A → Bool
 if_some f None = true
 if_some f (Some x) = f x
 
--- initialisers are not built yet
-abbrev pub none_left : List Init → Bool
-none_left [] = true
-none_left (i ∷ is) = false
+-- the values of initialisers
+abbrev pub inits : List Init → Bool
+inits [] = true
+inits (i ∷ is) = if_some expr i.value && inits is
 
 abbrev pub stmt_layer : StmtKind-F Bool Bool Bool → Bool
 stmt_layer (StmtKind-F.Expr e) = expr e
@@ -83,7 +83,7 @@ stmt_layer (StmtKind-F.Return e) = if_some expr e
 stmt_layer (StmtKind-F.Stamped place value) = false
 stmt_layer (StmtKind-F.Timely place limit one other) = false
 stmt_layer (StmtKind-F.Expires names body caught) = false
-stmt_layer (StmtKind-F.Declare n init) = none_left init
+stmt_layer (StmtKind-F.Declare n init) = inits init
 
 abbrev pub stmt_kind : StmtKind → Bool
 stmt_kind = fold-StmtKind Bool Bool Bool stmt_layer (λ g. all_true g.body) (λ s. s.kind)

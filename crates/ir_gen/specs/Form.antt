@@ -20,6 +20,7 @@ use Rattle.ir.specs.declared.form.IrLocal.{IrLocal}
 use Rattle.ir.specs.Machine.{first_kind}
 use Rattle.ir_gen.specs.Body.{function_steps}
 use Rattle.ir_gen.specs.Built.{stmts}
+use Rattle.ir_gen.specs.Locals as locals
 
 -- the objects of a function from a number on
 abbrev pub locals_from : List Struct → Function → ℕ → List Ty → List IrLocal
@@ -76,6 +77,12 @@ abbrev pub AreBuilt : List Struct → List Function → Type 0
 AreBuilt structs [] = Unit {0}
 AreBuilt structs (x ∷ xs) = AreScalars structs x.params × (stmts x.body ≡ true) × AreBuilt structs xs
 
+-- the locals that a function declares are its own
+abbrev pub DeclareTheirOwn : List Function → Type 0
+DeclareTheirOwn [] = Unit {0}
+DeclareTheirOwn (x ∷ xs) = (locals.stmts (length (x.params ++ x.locals)) x.body ≡ true) × DeclareTheirOwn xs
+
 pub record IsBuilt (core : Core) : Type 0 where
   pub main : main_of core ≡ Some (main_or (main_of core))
   pub functions : AreBuilt core.structs core.functions
+  pub locals : DeclareTheirOwn core.functions
