@@ -3,6 +3,7 @@ pub mod Expressions
 pub mod Tree
 pub mod Statements
 pub mod Initialising
+pub mod Declaring
 pub mod Switch
 pub mod StmtTree
 pub mod Calls
