@@ -225,7 +225,8 @@ module _ (ir : Ir) (rs : List Reading) where
       (next h first _)))
   adv_act h node (step.Nothing d) first ts r j = adv_depth d ts _ r (on refl (next h first _))
   adv_act h node (step.Drop d) first ts r j = adv_any ts r _ (λ t us. adv_depth d us _ r (on refl (next h first us)))
-  adv_act h node (step.Copy d) first ts r j = adv_any ts r _ (λ t us. adv_depth d us _ r (on refl (next h first _)))
+  adv_act h node (step.Beside d op) first ts r j = adv_value ts r _ (λ y us. adv_value us r _ (λ x ws. adv_depth d ws _ r
+      (adv_kept r refl _ _ (given_keeps node _ r) (λ z q2 e2. on e2 (next h first _)))))
   adv_act h node (step.Convert d to x) first ts r j = adv_operand node first x ts r refl _ (λ v us q e. adv_depth d us _ q
       (adv_kept q e _ _ (given_keeps node _ q) (λ w q2 e2. on e2 (next h first _))))
   adv_act h node (step.Unary d op t x) first ts r j = adv_operand node first x ts r refl _ (λ v us q e. adv_depth d us _ q

@@ -174,7 +174,8 @@ module _ (ir : Ir) (rs : List Reading) {born : List (List Slot)} where
     safe_act node (step.Put d x) p ts = safe_operand node first x ts (λ v us. safe_depth d us (on (p + 1) _))
     safe_act node (step.Nothing d) p ts = safe_depth d ts (on (p + 1) _)
     safe_act node (step.Drop d) p ts = safe_any ts (λ t us. safe_depth d us (on (p + 1) _))
-    safe_act node (step.Copy d) p ts = safe_any ts (λ t us. safe_depth d us (on (p + 1) _))
+    safe_act node (step.Beside d op) p ts = safe_value ts (λ y us. safe_value us (λ x ws. safe_depth d ws
+        (safe_then (safe_asked node _) (λ z e. on (p + 1) _))))
     safe_act node (step.Convert d to x) p ts = safe_operand node first x ts (λ v us. safe_depth d us
         (safe_then (safe_given node _) (λ w e. on (p + 1) _)))
     safe_act node (step.Unary d op t x) p ts = safe_operand node first x ts (λ v us. safe_depth d us

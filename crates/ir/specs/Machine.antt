@@ -230,7 +230,9 @@ module _ (ir : Ir) (rs : List Reading) where
   act node (step.Put d x) f p first ts below = on_operand node first x ts (λ v us. at_depth d us (gave f p first below us v))
   act node (step.Nothing d) f p first ts below = at_depth d ts (gave f p first below ts Undefined)
   act node (step.Drop d) f p first ts below = on_any ts (λ t us. at_depth d us (next f p first below us))
-  act node (step.Copy d) f p first ts below = on_any ts (λ t us. at_depth d us (next f p first below (t ∷ t ∷ us)))
+  act node (step.Beside d op) f p first ts below =
+      on_value ts (λ y us. on_value us (λ x ws. at_depth d ws (
+      asked node (λ s. computed s op x y) >>= gave f p first below (temporary.Value x ∷ ws))))
   act node (step.Convert d to x) f p first ts below =
       on_operand node first x ts (λ v us. at_depth d us (given node (converted to v) >>= gave f p first below us))
   act node (step.Unary d op t x) f p first ts below =

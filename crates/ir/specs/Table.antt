@@ -125,7 +125,7 @@ abbrev pub size : StepKind → ℕ
 size (step.Put d x) = place x
 size (step.Nothing d) = 0
 size (step.Drop d) = 0
-size (step.Copy d) = 8
+size (step.Beside d o) = bring operand.Temporary + bring operand.Temporary + operation_bytes o + 4
 size (step.Convert d to x) = convert_bytes to x
 size (step.Unary d o at x) = unary_step o x
 size (step.Binary d o left right) = bring left + bring right + operation_bytes o + 4
@@ -176,6 +176,7 @@ test_helped (test.Computed o left right) = operation_helped o
 -- whether a step calls a helper routine; it never calls two
 abbrev pub uses_helper : StepKind → Bool
 uses_helper (step.Binary d o left right) = operation_helped o
+uses_helper (step.Beside d o) = operation_helped o
 uses_helper (step.Element d bytes own x) = not (is_short bytes)
 uses_helper (step.Sum d bytes left_type right_type swapped left right) = not (is_short bytes)
 uses_helper (step.Update d to k o x keeps) = operation_helped o
@@ -210,7 +211,7 @@ abbrev pub depth_of : StepKind → ℕ
 depth_of (step.Put d x) = d
 depth_of (step.Nothing d) = d
 depth_of (step.Drop d) = d
-depth_of (step.Copy d) = d
+depth_of (step.Beside d o) = d
 depth_of (step.Convert d to x) = d
 depth_of (step.Unary d o at x) = d
 depth_of (step.Binary d o left right) = d
@@ -243,7 +244,7 @@ depth_of _ = 0
 abbrev pub takes : StepKind → ℕ
 takes (step.Put d x) = taken x
 takes (step.Drop d) = 1
-takes (step.Copy d) = 1
+takes (step.Beside d o) = 2
 takes (step.Convert d to x) = taken x
 takes (step.Unary d o at x) = taken x
 takes (step.Binary d o left right) = taken left + taken right
@@ -272,7 +273,7 @@ takes _ = 0
 abbrev pub gives : StepKind → ℕ
 gives (step.Put d x) = 1
 gives (step.Nothing d) = 1
-gives (step.Copy d) = 2
+gives (step.Beside d o) = 2
 gives (step.Convert d to x) = 1
 gives (step.Unary d o at x) = 1
 gives (step.Binary d o left right) = 1

@@ -100,9 +100,10 @@ pub enum StepKind {
     Drop {
         depth: u32,
     },
-    /// Gives the topmost temporary a second time.
-    Copy {
+    /// What is computed of the two topmost temporaries, of which the lower one stays below it.
+    Beside {
         depth: u32,
+        operation: Operation,
     },
     /// The value in an integer type; a pointer stays.
     Convert {

@@ -36,6 +36,13 @@ pub two_is : (node first d : ℕ) (ts : List Temporary) (x y : Value) (go : Valu
 unfolding m.on_operands m.on_operand m.on_value
 two_is node first d ts x y go e = at_depth_is d ts (go x y ts) e
 
+pub beside_is : (d : ℕ) (ts : List Temporary) (x y : Value) (go : Value → Value → List Temporary → Action Control) → length ts
+    ≡ d
+    → m.on_value (temporary.Value y ∷ temporary.Value x ∷ ts) (λ b us. m.on_value us (λ a ws. m.at_depth d ws (go a b ws)))
+    ≡ go x y ts
+unfolding m.on_value
+beside_is d ts x y go e = at_depth_is d ts (go x y ts) e
+
 pub place_is : (d : ℕ) (ts : List Temporary) (l : Location) (go : Location → List Temporary → Action Control) → length ts ≡ d
     → m.on_place (temporary.Place l ∷ ts) (λ x us. m.at_depth d us (go x us)) ≡ go l ts
 unfolding m.on_place

@@ -30,7 +30,7 @@ use Rattle.ir.proofs.Leading.{Stands, stands_front, stands_back, Leads, Gives, g
 use Rattle.ir_gen.specs.Code as c
 use Rattle.ir_gen.specs.Code.{Code, Part, at_node, single, then_code, above, choice}
 use Rattle.ir_gen.proofs.Doing as d
-use Rattle.ir_gen.proofs.Doing.{Even, even_then, even_above, value, placed, one_is, two_is, place_is, any_is, stored_is, before_is, local_stored_is, local_before_is}
+use Rattle.ir_gen.proofs.Doing.{Even, even_then, even_above, value, placed, one_is, two_is, beside_is, place_is, stored_is, before_is, local_stored_is, local_before_is}
 
 pub put_constant : (node first d : ℕ) (n : ℤ) (ts : List Temporary) (go : Value → List Temporary → Action Control) → length ts
     ≡ d
@@ -254,8 +254,8 @@ module _ (ir : Ir) (rs : List Reading) (f : ℕ) (fn : IrFunction) (is : slice_g
       → Sim placed a ca → Sim value b cb
       → Sim value (updating node k o a b true true) (c.update_before node ca k o cb)
   sim_update_before node k o a b ca cb sa sb = record {
-    even = even_then ca more sa.even (even_then peek more0 (λ p d. refl)
-        (even_then copy more1 (λ p d. refl) (even_then (above 3 cb) more2 (even_above 3 cb sb.even) (λ p d. refl))));
+    even = even_then ca more sa.even (even_then peek more1 (λ p d. refl)
+        (even_then (above 2 cb) more2 (even_above 2 cb sb.even) (λ p d. refl)));
     does = d.does_then ir rs f fn is first below [] a (λ l. placed l ∷ [])
         (λ l. load node l k >>= λ before. b >>= λ v. asked node (λ s. m.computed s o before v)
         >>= λ after. store node l k after true >>= λ stored. pure before)
@@ -265,45 +265,14 @@ module _ (ir : Ir) (rs : List Reading) (f : ℕ) (fn : IrFunction) (is : slice_g
       peek : Code
       peek = single node (λ d. step.Peek d k)
 
-      copy : Code
-      copy = single node (λ d. step.Copy (d + 1))
-
       more2 : Code
-      more2 = then_code (single node (λ d. step.Binary (d + 2) o operand.Temporary operand.Temporary))
-          (single node (c.store_step k keep.Before))
+      more2 = then_code (single node (λ d. step.Beside (d + 1) o)) (single node (c.store_step k keep.Before))
 
       more1 : Code
-      more1 = then_code (above 3 cb) more2
-
-      more0 : Code
-      more0 = then_code copy more1
+      more1 = then_code (above 2 cb) more2
 
       more : Code
-      more = then_code peek more0
-
-      from_copy : (l : Location) (before : Value) → Does (value before ∷ value before ∷ placed l ∷ [])
-          (b >>= λ v. asked node (λ s. m.computed s o before v) >>= λ after. store node l k after true
-          >>= λ stored. pure before) (λ w. value w ∷ []) more1
-      from_copy l before = d.does_then ir rs f fn is first below (value before ∷ value before ∷ placed l ∷ []) b
-          (λ v. value v ∷ value before ∷ value before ∷ placed l ∷ [])
-          (λ v. asked node (λ s. m.computed s o before v) >>= λ after. store node l k after true >>= λ stored. pure before)
-          (λ w. value w ∷ []) (above 3 cb) more2 (even_above 3 cb sb.even)
-          (d.does_above ir rs f fn is first below value 3 (value before ∷ value before ∷ placed l ∷ []) b cb refl sb)
-          (λ v. d.does_then ir rs f fn is first below (value v ∷ value before ∷ value before ∷ placed l ∷ [])
-          (asked node (λ s. m.computed s o before v)) (λ after. value after ∷ value before ∷ placed l ∷ [])
-          (λ after. store node l k after true >>= λ stored. pure before)
-          (λ w. value w ∷ []) (single node (λ d. step.Binary (d + 2) o operand.Temporary operand.Temporary))
-          (single node (c.store_step k keep.Before)) (λ p d. refl)
-          (d.does_step ir rs f fn is first below (value v ∷ value before ∷ value before ∷ placed l ∷ [])
-          (asked node (λ s. m.computed s o before v)) (λ after. value after ∷ value before ∷ placed l ∷ []) node
-          (λ d. step.Binary (d + 2) o operand.Temporary operand.Temporary)
-          (λ p d ts hd. let deep : suc (suc (length ts)) ≡ d + 2 = omega (arith, hd) in
-          two_is node first (d + 2) (value before ∷ placed l ∷ ts) before v _ deep))
-          (λ after. d.does_pure ir rs f fn is first below (value after ∷ value before ∷ placed l ∷ [])
-          (store node l k after true) (λ x. before) (λ w. value w ∷ []) (single node (c.store_step k keep.Before))
-          (d.does_step ir rs f fn is first below (value after ∷ value before ∷ placed l ∷ []) (store node l k after true)
-          (λ w. value before ∷ []) node (c.store_step k keep.Before)
-          (λ p d ts hd. before_is node first d ts l before after _ hd))))
+      more = then_code peek more1
 
       from_place : (l : Location) → Does (placed l ∷ [])
           (load node l k >>= λ before. b >>= λ v. asked node (λ s. m.computed s o before v)
@@ -312,19 +281,30 @@ module _ (ir : Ir) (rs : List Reading) (f : ℕ) (fn : IrFunction) (is : slice_g
           (λ before. value before ∷ placed l ∷ [])
           (λ before. b >>= λ v. asked node (λ s. m.computed s o before v) >>= λ after. store node l k after true
           >>= λ stored. pure before)
-          (λ w. value w ∷ []) peek more0 (λ p d. refl)
+          (λ w. value w ∷ []) peek more1 (λ p d. refl)
           (d.does_step ir rs f fn is first below (placed l ∷ []) (load node l k) (λ before. value before ∷ placed l ∷ []) node
           (λ d. step.Peek d k) (λ p d ts hd. place_is d ts l _ hd))
-          (λ before. d.does_then ir rs f fn is first below (value before ∷ placed l ∷ []) (pure {A = Unit {0}} tt)
-          (λ u. value before ∷ value before ∷ placed l ∷ [])
-          (λ u. b >>= λ v. asked node (λ s. m.computed s o before v) >>= λ after. store node l k after true
+          (λ before. d.does_then ir rs f fn is first below (value before ∷ placed l ∷ []) b
+          (λ v. value v ∷ value before ∷ placed l ∷ [])
+          (λ v. asked node (λ s. m.computed s o before v) >>= λ after. store node l k after true
           >>= λ stored. pure before)
-          (λ w. value w ∷ []) copy more1 (λ p d. refl)
-          (d.does_step ir rs f fn is first below (value before ∷ placed l ∷ []) (pure {A = Unit {0}} tt)
-          (λ u. value before ∷ value before ∷ placed l ∷ []) node (λ d. step.Copy (d + 1))
+          (λ w. value w ∷ []) (above 2 cb) more2 (even_above 2 cb sb.even)
+          (d.does_above ir rs f fn is first below value 2 (value before ∷ placed l ∷ []) b cb refl sb)
+          (λ v. d.does_then ir rs f fn is first below (value v ∷ value before ∷ placed l ∷ [])
+          (asked node (λ s. m.computed s o before v)) (λ after. value after ∷ value before ∷ placed l ∷ [])
+          (λ after. store node l k after true >>= λ stored. pure before)
+          (λ w. value w ∷ []) (single node (λ d. step.Beside (d + 1) o))
+          (single node (c.store_step k keep.Before)) (λ p d. refl)
+          (d.does_step ir rs f fn is first below (value v ∷ value before ∷ placed l ∷ [])
+          (asked node (λ s. m.computed s o before v)) (λ after. value after ∷ value before ∷ placed l ∷ []) node
+          (λ d. step.Beside (d + 1) o)
           (λ p d ts hd. let deep : suc (length ts) ≡ d + 1 = omega (arith, hd) in
-          any_is (d + 1) (placed l ∷ ts) (value before) _ deep))
-          (λ u. from_copy l before))
+          beside_is (d + 1) (placed l ∷ ts) before v _ deep))
+          (λ after. d.does_pure ir rs f fn is first below (value after ∷ value before ∷ placed l ∷ [])
+          (store node l k after true) (λ x. before) (λ w. value w ∷ []) (single node (c.store_step k keep.Before))
+          (d.does_step ir rs f fn is first below (value after ∷ value before ∷ placed l ∷ []) (store node l k after true)
+          (λ w. value before ∷ []) node (c.store_step k keep.Before)
+          (λ p d ts hd. before_is node first d ts l before after _ hd)))))
 
   -- without a mark
   sim_scalar : (node : ℕ) (q : Part) (k : Kind) → Sim value (load node (at (first + q.local) q.offset) k)
@@ -386,56 +366,39 @@ module _ (ir : Ir) (rs : List Reading) (f : ℕ) (fn : IrFunction) (is : slice_g
       (c.update_local node (Some q) k o cb true)
       (ap (λ (x : Action Location). updating node k o x b true false) (sym e))
       (record {
-        even = even_then (c.put node (c.scalar_of q k)) more0 (λ p d. refl)
-            (even_then (single node step.Copy) more1 (λ p d. refl)
-            (even_then (above 2 cb) more2 (even_above 2 cb sb.even) (λ p d. refl)));
+        even = even_then (c.put node (c.scalar_of q k)) more1 (λ p d. refl)
+            (even_then (above 1 cb) more2 (even_above 1 cb sb.even) (λ p d. refl));
         does = d.does_then ir rs f fn is first below [] (load node loc k) (λ before. value before ∷ [])
-            (from_load node k o loc b true) (λ w. value w ∷ []) (c.put node (c.scalar_of q k)) more0 (λ p d. refl)
+            (from_load node k o loc b true) (λ w. value w ∷ []) (c.put node (c.scalar_of q k)) more1 (λ p d. refl)
             (sim_scalar node q k).does
-            (λ before. d.does_then ir rs f fn is first below (value before ∷ []) (pure {A = Unit {0}} tt)
-            (λ u. value before ∷ value before ∷ []) (λ u. from_load node k o loc b true before) (λ w. value w ∷ [])
-            (single node step.Copy) more1 (λ p d. refl)
-            (d.does_step ir rs f fn is first below (value before ∷ []) (pure {A = Unit {0}} tt)
-            (λ u. value before ∷ value before ∷ []) node step.Copy (λ p d ts hd. any_is d ts (value before) _ hd))
-            (λ u. from_copy before));
+            (λ before. d.does_then ir rs f fn is first below (value before ∷ []) b (λ v. value v ∷ value before ∷ [])
+            (λ v. asked node (λ s. m.computed s o before v) >>= λ after. store node loc k after false
+            >>= λ stored. pure before)
+            (λ w. value w ∷ []) (above 1 cb) more2 (even_above 1 cb sb.even)
+            (d.does_above ir rs f fn is first below value 1 (value before ∷ []) b cb refl sb)
+            (λ v. d.does_then ir rs f fn is first below (value v ∷ value before ∷ [])
+            (asked node (λ s. m.computed s o before v)) (λ after. value after ∷ value before ∷ [])
+            (λ after. store node loc k after false >>= λ stored. pure before)
+            (λ w. value w ∷ []) (single node (λ d. step.Beside d o))
+            (c.store_local node (Some q) k keep.Before) (λ p d. refl)
+            (d.does_step ir rs f fn is first below (value v ∷ value before ∷ []) (asked node (λ s. m.computed s o before v))
+            (λ after. value after ∷ value before ∷ []) node (λ d. step.Beside d o)
+            (λ p d ts hd. beside_is d ts before v _ hd))
+            (λ after. d.does_pure ir rs f fn is first below (value after ∷ value before ∷ []) (store node loc k after false)
+            (λ x. before) (λ w. value w ∷ []) (c.store_local node (Some q) k keep.Before)
+            (d.does_step ir rs f fn is first below (value after ∷ value before ∷ []) (store node loc k after false)
+            (λ w. value before ∷ []) node (λ d. step.StoreLocal d q.local q.offset k operand.Temporary keep.Before)
+            (λ p d ts hd. local_before_is node first d ts before after _ hd)))));
       })
     where
       loc : Location
       loc = at (first + q.local) q.offset
 
       more2 : Code
-      more2 = then_code (single node (λ d. step.Binary (d + 1) o operand.Temporary operand.Temporary))
-          (c.store_local node (Some q) k keep.Before)
+      more2 = then_code (single node (λ d. step.Beside d o)) (c.store_local node (Some q) k keep.Before)
 
       more1 : Code
-      more1 = then_code (above 2 cb) more2
-
-      more0 : Code
-      more0 = then_code (single node step.Copy) more1
-
-      from_copy : (before : Value) → Does (value before ∷ value before ∷ []) (from_load node k o loc b true before)
-          (λ w. value w ∷ []) more1
-      from_copy before = d.does_then ir rs f fn is first below (value before ∷ value before ∷ []) b
-          (λ v. value v ∷ value before ∷ value before ∷ [])
-          (λ v. asked node (λ s. m.computed s o before v) >>= λ after. store node loc k after false
-          >>= λ stored. pure before)
-          (λ w. value w ∷ []) (above 2 cb) more2 (even_above 2 cb sb.even)
-          (d.does_above ir rs f fn is first below value 2 (value before ∷ value before ∷ []) b cb refl sb)
-          (λ v. d.does_then ir rs f fn is first below (value v ∷ value before ∷ value before ∷ [])
-          (asked node (λ s. m.computed s o before v)) (λ after. value after ∷ value before ∷ [])
-          (λ after. store node loc k after false >>= λ stored. pure before)
-          (λ w. value w ∷ []) (single node (λ d. step.Binary (d + 1) o operand.Temporary operand.Temporary))
-          (c.store_local node (Some q) k keep.Before) (λ p d. refl)
-          (d.does_step ir rs f fn is first below (value v ∷ value before ∷ value before ∷ [])
-          (asked node (λ s. m.computed s o before v)) (λ after. value after ∷ value before ∷ []) node
-          (λ d. step.Binary (d + 1) o operand.Temporary operand.Temporary)
-          (λ p d ts hd. let deep : suc (length ts) ≡ d + 1 = omega (arith, hd) in
-          two_is node first (d + 1) (value before ∷ ts) before v _ deep))
-          (λ after. d.does_pure ir rs f fn is first below (value after ∷ value before ∷ []) (store node loc k after false)
-          (λ x. before) (λ w. value w ∷ []) (c.store_local node (Some q) k keep.Before)
-          (d.does_step ir rs f fn is first below (value after ∷ value before ∷ []) (store node loc k after false)
-          (λ w. value before ∷ []) node (λ d. step.StoreLocal d q.local q.offset k operand.Temporary keep.Before)
-          (λ p d ts hd. local_before_is node first d ts before after _ hd))))
+      more1 = then_code (above 1 cb) more2
 
   -- ---- calls
 

@@ -138,9 +138,9 @@ o_before : (node : ℕ) (x : Code) (k : Kind) (o : Operation) (v : Code) → Ord
     → Orderly (c.update_before node x k o v)
 o_before node x k o v hx hv =
     o_then x _ hx (o_then (single node (λ d. step.Peek d k)) _ (o_single node _ (λ fn p d. tt))
-    (o_then (single node (λ d. step.Copy (d + 1))) _ (o_single node _ (λ fn p d. tt)) (o_then (above 3 v) _ (o_above 3 v hv)
-    (o_then (single node (λ d. step.Binary (d + 2) o operand.Temporary operand.Temporary))
-    (single node (c.store_step k keep.Before)) (o_single node _ (λ fn p d. tt)) (o_single node _ (λ fn p d. tt))))))
+    (o_then (above 2 v) _ (o_above 2 v hv)
+    (o_then (single node (λ d. step.Beside (d + 1) o))
+    (single node (c.store_step k keep.Before)) (o_single node _ (λ fn p d. tt)) (o_single node _ (λ fn p d. tt)))))
 
 o_local : (node : ℕ) (q : Option LocalPart) (k : Kind) (o : Operation) (v : Code) (old : Bool) → Orderly v
     → Orderly (c.update_local node q k o v old)
@@ -150,11 +150,9 @@ o_local node (Some q) k o v false hv =
     (o_then (single node (λ d. step.Binary d o operand.Temporary operand.Temporary)) (c.store_local node (Some q) k keep.Stored)
     (o_single node _ (λ fn p d. tt)) (o_store_local node (Some q) k keep.Stored)))
 o_local node (Some q) k o v true hv =
-    o_then (c.put node (c.scalar_of q k)) _ (o_put node (c.scalar_of q k))
-    (o_then (single node step.Copy) _ (o_single node _ (λ fn p d. tt)) (o_then (above 2 v) _ (o_above 2 v hv)
-    (o_then (single node (λ d. step.Binary (d + 1) o operand.Temporary operand.Temporary))
-    (c.store_local node (Some q) k keep.Before) (o_single node _ (λ fn p d. tt))
-    (o_store_local node (Some q) k keep.Before))))
+    o_then (c.put node (c.scalar_of q k)) _ (o_put node (c.scalar_of q k)) (o_then (above 1 v) _ (o_above 1 v hv)
+    (o_then (single node (λ d. step.Beside d o)) (c.store_local node (Some q) k keep.Before)
+    (o_single node _ (λ fn p d. tt)) (o_store_local node (Some q) k keep.Before)))
 
 o_update : (node : ℕ) (s : Spot) (k : Kind) (o : Operation) (v : Code) (old marked : Bool) → Orderly s.code → Orderly v
     → Orderly (c.update_code node s k o v old marked)
@@ -588,6 +586,16 @@ module _ (structs : List Struct) (objects : List (List Slot)) where
   o_stmts : (xs : List Stmt) → OrderlyBody (b.stmts structs objects xs)
   o_stmts [] = s_none
   o_stmts (x ∷ xs) = s_then (b.stmt structs objects x) (b.stmts structs objects xs) (stmt_orderly x.kind x.node) (o_stmts xs)
+
+  -- how many steps a function has
+  pub function_length : (main : Bool) (params node : ℕ) (xs : List Stmt)
+      → length (b.function_steps structs objects main params node xs) ≡ 2 + (b.stmts structs objects xs).size
+  function_length main params node xs = omega (
+    arith,
+    length-append ((b.stmts structs objects xs).steps 1 (1 + (b.stmts structs objects xs).size)
+        (1 + (b.stmts structs objects xs).size)) (at_node node (b.end_step structs objects main) ∷ []),
+    (o_stmts xs).even 1 (1 + (b.stmts structs objects xs).size) (1 + (b.stmts structs objects xs).size),
+  )
 
   o_end : (main : Bool) (node : ℕ) (fn : IrFunction) (p : ℕ) → Onward fn p (at_node node (b.end_step structs objects main) ∷ [])
   o_end true node fn p = (tt, tt)

@@ -96,22 +96,11 @@ own_two n x y t h = subst (λ z. z ≤ n * t) (dist x y n) (mul-le-mul_left n h)
 own_three : (n x y z t : ℕ) → x + (y + z) ≤ t → n * x + (n * y + n * z) ≤ n * t
 own_three n x y z t h = subst (λ m. n * x + m ≤ n * t) (dist y z n) (own_two n x (y + z) t h)
 
-own_four : (n u x y z t : ℕ) → u + (x + (y + z)) ≤ t → n * u + (n * x + (n * y + n * z)) ≤ n * t
-own_four n u x y z t h = subst (λ m. n * u + (n * x + m) ≤ n * t) (dist y z n) (own_three n u x (y + z) t h)
-
 sum_stored : (n x y z t a b : ℕ) → x + (y + z) ≤ t → a + (n * x + (b + (n * y + (n * z + 0)))) ≤ n * t + (a + (b + 0))
 sum_stored n x y z t a b h = omega (arith, own_three n x y z t h)
 
-sum_before : (n u x y z t a b : ℕ) → u + (x + (y + z)) ≤ t
-    → a + (n * u + (n * x + (b + (n * y + (n * z + 0))))) ≤ n * t + (a + (b + 0))
-sum_before n u x y z t a b h = omega (arith, own_four n u x y z t h)
-
 sum_local : (n x y z t a b : ℕ) → x + (y + z) ≤ t → n * x + (b + (n * y + (n * z + 0))) ≤ n * t + (a + (b + 0))
 sum_local n x y z t a b h = omega (arith, own_three n x y z t h)
-
-sum_local_before : (n u x y z t a b : ℕ) → u + (x + (y + z)) ≤ t
-    → n * u + (n * x + (b + (n * y + (n * z + 0)))) ≤ n * t + (a + (b + 0))
-sum_local_before n u x y z t a b h = omega (arith, own_four n u x y z t h)
 
 sum_call : (n len a : ℕ) → a + (n * 10 + (n * 4 + 0)) ≤ n * (24 + 12 * len) + a
 sum_call n len a = let h : 10 + 4 ≤ 24 + 12 * len = omega arith in omega (arith, own_two n 10 4 (24 + 12 * len) h)
@@ -211,17 +200,16 @@ module _ (w : ℕ → ℕ) where
       fits : 10 + ((12 + operation_bytes o) + 18) ≤ 24 + 28 + row
       fits = omega (arith, hr)
   w_update node s k o row v true true a b ns ms hr hs hv p d =
-      w_more _ _ _ _ _ (sum_before (w node) 10 8 (12 + operation_bytes o) 20 (24 + 28 + row) a b fits)
+      w_more _ _ _ _ _ (sum_stored (w node) 10 (12 + operation_bytes o) 20 (24 + 28 + row) a b fits)
       (omega (arith, weights_both ns ms))
       (w_append (s.code.steps p d) _ _ _ _ _ (hs p d)
       (w_cons node (step.Peek d k) 10 0 _ _ _ (omega arith) (omega arith)
-      (w_cons node (step.Copy (d + 1)) 8 0 _ _ _ (omega arith) (omega arith)
-      (w_append (v.steps (p + s.code.size + 1 + 1) (d + 3)) _ _ _ _ _ (hv (p + s.code.size + 1 + 1) (d + 3))
-      (w_cons node (step.Binary (d + 2) o operand.Temporary operand.Temporary) (12 + operation_bytes o) 1 _ _ _
+      (w_append (v.steps (p + s.code.size + 1) (d + 2)) _ _ _ _ _ (hv (p + s.code.size + 1) (d + 2))
+      (w_cons node (step.Beside (d + 1) o) (12 + operation_bytes o) 1 _ _ _
       (omega arith) (once (operation_helped o))
-      (w_cons node (c.store_step k keep.Before d) 20 0 [] 0 0 (omega arith) (omega arith) w_none))))))
+      (w_cons node (c.store_step k keep.Before d) 20 0 [] 0 0 (omega arith) (omega arith) w_none)))))
     where
-      fits : 10 + (8 + ((12 + operation_bytes o) + 20)) ≤ 24 + 28 + row
+      fits : 10 + ((12 + operation_bytes o) + 20) ≤ 24 + 28 + row
       fits = omega (arith, hr)
   w_update node s k o row v false false a b ns ms hr hs hv p d = by_part s.part
     where
@@ -242,22 +230,21 @@ module _ (w : ℕ → ℕ) where
           (omega (arith, narrow_short k)) (omega arith) w_none))))
   w_update node s k o row v true false a b ns ms hr hs hv p d = by_part s.part
     where
-      fits : 8 + (8 + ((12 + operation_bytes o) + 16)) ≤ 24 + 16 + row
+      fits : 8 + ((12 + operation_bytes o) + 16) ≤ 24 + 16 + row
       fits = omega (arith, hr)
 
       by_part : (q : Option Part) → Within ((c.update_local node q k o v true).steps p d)
           (w node * (24 + 16 + row) + (a + (b + 0))) (w node + weights w (ns ++ ms))
       by_part None = w_more _ _ _ _ _ (sum_none (w node) (24 + 16 + row) a b) (omega arith) w_none
       by_part (Some q) =
-          w_more _ _ _ _ _ (sum_local_before (w node) 8 8 (12 + operation_bytes o) 16 (24 + 16 + row) a b fits)
+          w_more _ _ _ _ _ (sum_local (w node) 8 (12 + operation_bytes o) 16 (24 + 16 + row) a b fits)
           (omega (arith, weights_both ns ms))
           (w_cons node (step.Put d (c.scalar_of q k)) 8 0 _ _ _ (omega arith) (omega arith)
-          (w_cons node (step.Copy d) 8 0 _ _ _ (omega arith) (omega arith)
-          (w_append (v.steps (p + 1 + 1) (d + 2)) _ _ _ _ _ (hv (p + 1 + 1) (d + 2))
-          (w_cons node (step.Binary (d + 1) o operand.Temporary operand.Temporary) (12 + operation_bytes o) 1 _ _ _
+          (w_append (v.steps (p + 1) (d + 1)) _ _ _ _ _ (hv (p + 1) (d + 1))
+          (w_cons node (step.Beside d o) (12 + operation_bytes o) 1 _ _ _
           (omega arith) (once (operation_helped o))
           (w_cons node (step.StoreLocal d q.local q.offset k operand.Temporary keep.Before) 16 0 [] 0 0 (omega arith)
-          (omega arith) w_none)))))
+          (omega arith) w_none))))
 
   -- ---- shapes of expressions
 

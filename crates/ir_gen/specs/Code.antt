@@ -143,13 +143,11 @@ update_stored node c k o value =
     then_code c (then_code (single node (λ d. step.Peek d k)) (then_code (above 2 value) (then_code
     (single node (λ d. step.Binary (d + 1) o operand.Temporary operand.Temporary)) (single node (store_step k keep.Stored)))))
 
--- the same, with the old value once more to be kept
+-- the same, and the old value stays to be kept
 abbrev pub update_before : ℕ → Code → Kind → Operation → Code → Code
 update_before node c k o value =
-    then_code c (then_code (single node (λ d. step.Peek d k))
-    (then_code (single node (λ d. step.Copy (d + 1))) (then_code (above 3 value)
-    (then_code (single node (λ d. step.Binary (d + 2) o operand.Temporary operand.Temporary))
-    (single node (store_step k keep.Before))))))
+    then_code c (then_code (single node (λ d. step.Peek d k)) (then_code (above 2 value)
+    (then_code (single node (λ d. step.Beside (d + 1) o)) (single node (store_step k keep.Before)))))
 
 abbrev pub scalar_of : Part → Kind → Operand
 scalar_of q k = operand.Scalar (base.Local q.local) q.offset k
@@ -161,8 +159,8 @@ update_local node (Some q) k o value false =
     then_code (put node (scalar_of q k)) (then_code (above 1 value) (then_code
     (single node (λ d. step.Binary d o operand.Temporary operand.Temporary)) (store_local node (Some q) k keep.Stored)))
 update_local node (Some q) k o value true =
-    then_code (put node (scalar_of q k)) (then_code (single node step.Copy) (then_code (above 2 value) (then_code
-    (single node (λ d. step.Binary (d + 1) o operand.Temporary operand.Temporary)) (store_local node (Some q) k keep.Before))))
+    then_code (put node (scalar_of q k)) (then_code (above 1 value) (then_code
+    (single node (λ d. step.Beside d o)) (store_local node (Some q) k keep.Before)))
 
 abbrev pub update_code : ℕ → Spot → Kind → Operation → Code → (old marked : Bool) → Code
 update_code node s k o value false true = update_stored node s.code k o value
