@@ -6,6 +6,7 @@ use Rattle.std.specs.Prelude.{slice_get, nat_eq}
 use Rattle.base16.specs.declared.image.Kind.{Kind}
 use Rattle.base16.specs.declared.reading.Reading.{Reading}
 use Rattle.core_tree.specs.declared.types.Slot.{Slot}
+use Rattle.core_tree.specs.LawfulCore.{Every}
 use Rattle.c_values.specs.declared.value.Value.{Value}
 use Rattle.c_values.specs.declared.value.Value.TheVariants.{Int, Null, Undefined}
 use Rattle.c_values.specs.declared.value.Location.{Location}
@@ -34,7 +35,7 @@ use Rattle.ir.specs.declared.control.Temporary.TheVariants as temporary
 use Rattle.ir.specs.Machine as m
 use Rattle.ir.specs.Machine.{Control, At, Calling, Returning, Frame, Temporary}
 use Rattle.ir.proofs.Bounded.{same_function}
-use Rattle.ir.proofs.Objects.{slots_of, Each, Has, Sound, Keeps, went, stopped, Safe, Any, keeps_then, safe_then, safe_pure, safe_stop, safe_given, safe_asked, safe_changed, safe_if, safe_mark, safe_load, safe_store, safe_sense, safe_emit, safe_leave, safe_finish, safe_stamped, safe_timely, safe_open, safe_checked, safe_close, clear_has, params_has, enter_keeps, first_of, object_has}
+use Rattle.ir.proofs.Objects.{slots_of, Has, Sound, Keeps, went, stopped, Safe, Any, keeps_then, safe_then, safe_pure, safe_stop, safe_given, safe_asked, safe_changed, safe_if, safe_mark, safe_load, safe_store, safe_sense, safe_emit, safe_leave, safe_finish, safe_stamped, safe_timely, safe_open, safe_checked, safe_close, clear_has, params_has, enter_keeps, first_of, object_has}
 
 -- the objects of a call, from a first number on, are those of its function
 pub record Owns (ir : Ir) (born : List (List Slot)) (f first : ℕ) : Type 0 where
@@ -48,9 +49,9 @@ FrameOwns ir born b = Owns ir born b.function b.first
 
 -- those of the call that runs and of those that wait
 abbrev pub Own : Ir → List (List Slot) → Control → Type 0
-Own ir born (At f p first ts below) = Owns ir born f first × Each (FrameOwns ir born) below
-Own ir born (Calling f d args below) = Each (FrameOwns ir born) below
-Own ir born (Returning v below) = Each (FrameOwns ir born) below
+Own ir born (At f p first ts below) = Owns ir born f first × Every (FrameOwns ir born) below
+Own ir born (Calling f d args below) = Every (FrameOwns ir born) below
+Own ir born (Returning v below) = Every (FrameOwns ir born) below
 
 -- a run whose objects are as they came to life
 pub data Holds (ir : Ir) : Outcome Control → Type 0 where
@@ -151,12 +152,12 @@ safe_update node l k op v marked =
     safe_then (safe_store node l k after marked) (λ stored e3. safe_pure (stored, before) tt)))
 
 module _ (ir : Ir) (rs : List Reading) {born : List (List Slot)} where
-  safe_left : (v : Value) (below : List Frame) → Each (FrameOwns ir born) below → Safe born (Own ir born) (m.left v below)
+  safe_left : (v : Value) (below : List Frame) → Every (FrameOwns ir born) below → Safe born (Own ir born) (m.left v below)
   unfolding m.left
   safe_left v [] e = safe_finish
   safe_left v (b ∷ below) e = safe_then safe_leave (λ u e2. safe_pure (Returning v (b ∷ below)) e)
 
-  module _ (f first : ℕ) (below : List Frame) (owns : Owns ir born f first) (waits : Each (FrameOwns ir born) below) where
+  module _ (f first : ℕ) (below : List Frame) (owns : Owns ir born f first) (waits : Every (FrameOwns ir born) below) where
     abbrev SafeAct : Action Control → Type 0
     SafeAct go = Safe born (Own ir born) go
 
@@ -250,8 +251,8 @@ owns_more ir born more f first h = record {
   slots = λ fn is n l. first_of born more (first + n) (h.inside fn is n l) ∙ h.slots fn is n l;
 }
 
-waits_more : (ir : Ir) (born more : List (List Slot)) (below : List Frame) → Each (FrameOwns ir born) below
-    → Each (FrameOwns ir (born ++ more)) below
+waits_more : (ir : Ir) (born more : List (List Slot)) (below : List Frame) → Every (FrameOwns ir born) below
+    → Every (FrameOwns ir (born ++ more)) below
 waits_more ir born more [] h = tt
 waits_more ir born more (b ∷ below) h = (owns_more ir born more b.function b.first h.0, waits_more ir born more below h.1)
 
@@ -269,7 +270,7 @@ owns_fresh ir born f fn is = record {
 
 module _ (ir : Ir) (rs : List Reading) where
   enter_holds : (born : List (List Slot)) (k : StepKind) (f : ℕ) (fn : IrFunction) (args : List Value) (below : List Frame)
-      (r : Run) → slice_get ir.functions f ≡ Some fn → Sound born r → Each (FrameOwns ir born) below
+      (r : Run) → slice_get ir.functions f ≡ Some fn → Sound born r → Every (FrameOwns ir born) below
       → Holds ir (m.act_enter ir rs k f fn args below r)
   enter_holds born (step.Enter n) f fn args below r is s waits =
       holds_of (keeps_then (act.enter f fn.frame (m.objects_of fn) r) _
@@ -321,7 +322,7 @@ start_slots (c ∷ cs) [] = ap (λ l. c ∷ l) (start_slots cs [])
 start_slots (c ∷ cs) (v ∷ vs) = ap (λ l. c ∷ l) (start_slots cs vs)
 
 start_has : (gs : List IrGlobal) (born : List (List Slot)) (n : ℕ) → n ≡ length born
-    → Each (Has (born ++ first_born gs)) (m.initial_objects n gs)
+    → Every (Has (born ++ first_born gs)) (m.initial_objects n gs)
 start_has [] born n e = tt
 start_has (g ∷ gs) born n e =
     let long : n + 1 ≡ length (born ++ g.scalars ∷ []) = omega (arith, e, length-append born (g.scalars ∷ [])) in (
@@ -331,7 +332,7 @@ start_has (g ∷ gs) born n e =
             ∙ sym (ap (λ k. get_or (born ++ g.scalars ∷ first_born gs) k []) e
             ∙ get_or-append_seam born g.scalars (first_born gs) []);
       },
-      subst (λ l. Each (Has l) (m.initial_objects (n + 1) gs)) (append_assoc born (g.scalars ∷ []) (first_born gs))
+      subst (λ l. Every (Has l) (m.initial_objects (n + 1) gs)) (append_assoc born (g.scalars ∷ []) (first_born gs))
           (start_has gs (born ++ g.scalars ∷ []) (n + 1) long),
     )
 

@@ -12,6 +12,7 @@ use Rattle.base16.specs.declared.reading.Reading.TheVariants as reading
 use Rattle.base16.specs.Integer.{wrapped}
 use Rattle.base16.specs.Placement.{frame_below}
 use Rattle.core_tree.specs.declared.types.Slot.{Slot}
+use Rattle.core_tree.specs.LawfulCore.{Every}
 use Rattle.c_values.specs.declared.value.Value.{Value}
 use Rattle.c_values.specs.declared.value.Value.TheVariants.{Int, Undefined}
 use Rattle.c_values.specs.declared.value.Location.{Location}
@@ -35,28 +36,24 @@ slot_of c = record { offset = c.offset; kind = c.kind }
 abbrev pub slots_of : List Cell → List Slot
 slots_of cs = map slot_of cs
 
-abbrev pub Each : {A : Type 0} → (A → Type 0) → List A → Type 0
-Each P [] = Unit {0}
-Each P (x ∷ xs) = P x × Each P xs
-
 -- what a change leaves true of each
-each_map : {A : Type 0} (P : A → Type 0) (f : A → A) → ((a : A) → P a → P (f a)) → (xs : List A) → Each P xs
-    → Each P (map f xs)
-each_map P f h [] e = tt
-each_map P f h (x ∷ xs) e = (h x e.0, each_map P f h xs e.1)
+every_map : {A : Type 0} (P : A → Type 0) (f : A → A) → ((a : A) → P a → P (f a)) → (xs : List A) → Every P xs
+    → Every P (map f xs)
+every_map P f h [] e = tt
+every_map P f h (x ∷ xs) e = (h x e.0, every_map P f h xs e.1)
 
-each_as : {A : Type 0} {P Q : A → Type 0} → ((a : A) → P a → Q a) → (xs : List A) → Each P xs → Each Q xs
-each_as h [] e = tt
-each_as h (x ∷ xs) e = (h x e.0, each_as h xs e.1)
+every_as : {A : Type 0} {P Q : A → Type 0} → ((a : A) → P a → Q a) → (xs : List A) → Every P xs → Every Q xs
+every_as h [] e = tt
+every_as h (x ∷ xs) e = (h x e.0, every_as h xs e.1)
 
-each_and_last : {A : Type 0} (P : A → Type 0) (xs : List A) (y : A) → Each P xs → P y → Each P (xs ++ y ∷ [])
-each_and_last P [] y e p = (p, tt)
-each_and_last P (x ∷ xs) y e p = (e.0, each_and_last P xs y e.1 p)
+every_and_last : {A : Type 0} (P : A → Type 0) (xs : List A) (y : A) → Every P xs → P y → Every P (xs ++ y ∷ [])
+every_and_last P [] y e p = (p, tt)
+every_and_last P (x ∷ xs) y e p = (e.0, every_and_last P xs y e.1 p)
 
-each_but_last : {A : Type 0} (P : A → Type 0) (xs : List A) → Each P xs → Each P (without_last xs)
-each_but_last P [] e = tt
-each_but_last P (x ∷ []) e = tt
-each_but_last P (x ∷ (y ∷ ys)) e = (e.0, each_but_last P (y ∷ ys) e.1)
+every_but_last : {A : Type 0} (P : A → Type 0) (xs : List A) → Every P xs → Every P (without_last xs)
+every_but_last P [] e = tt
+every_but_last P (x ∷ []) e = tt
+every_but_last P (x ∷ (y ∷ ys)) e = (e.0, every_but_last P (y ∷ ys) e.1)
 
 -- ---- a state, where the objects that came to life had these scalars, in order
 
@@ -65,15 +62,15 @@ pub record Has (born : List (List Slot)) (o : Object) : Type 0 where
   pub slots : slots_of o.cells ≡ get_or born o.number []
 
 abbrev pub CallHas : List (List Slot) → Call → Type 0
-CallHas born c = Each (Has born) c.locals
+CallHas born c = Every (Has born) c.locals
 
 abbrev pub SavedHas : List (List Slot) → Option Saved → Type 0
 SavedHas born None = Unit {0}
-SavedHas born (Some b) = Each (Has born) b.globals × Each (CallHas born) b.calls
+SavedHas born (Some b) = Every (Has born) b.globals × Every (CallHas born) b.calls
 
 pub record StateHas (born : List (List Slot)) (s : State) : Type 0 where
-  pub globals : Each (Has born) s.globals
-  pub calls : Each (CallHas born) s.calls
+  pub globals : Every (Has born) s.globals
+  pub calls : Every (CallHas born) s.calls
   pub block : SavedHas born s.block
 
 -- more objects come to life
@@ -91,16 +88,16 @@ module _ (born more : List (List Slot)) where
   }
 
   then_call : (c : Call) → CallHas born c → CallHas (born ++ more) c
-  then_call c h = each_as then_has c.locals h
+  then_call c h = every_as then_has c.locals h
 
   then_saved : (o : Option Saved) → SavedHas born o → SavedHas (born ++ more) o
   then_saved None h = tt
-  then_saved (Some b) h = (each_as then_has b.globals h.0, each_as then_call b.calls h.1)
+  then_saved (Some b) h = (every_as then_has b.globals h.0, every_as then_call b.calls h.1)
 
   then_state : (s : State) → StateHas born s → StateHas (born ++ more) s
   then_state s h = record {
-    globals = each_as then_has s.globals h.globals;
-    calls = each_as then_call s.calls h.calls;
+    globals = every_as then_has s.globals h.globals;
+    calls = every_as then_call s.calls h.calls;
     block = then_saved s.block h.block;
   }
 
@@ -109,7 +106,7 @@ fresh_slots [] = refl
 fresh_slots (s ∷ ss) = ap (λ l. s ∷ l) (fresh_slots ss)
 
 -- objects that come to life have their scalars
-fresh_has : (slots born : List (List Slot)) (n : ℕ) → n ≡ length born → Each (Has (born ++ slots)) (fresh_objects n slots)
+fresh_has : (slots born : List (List Slot)) (n : ℕ) → n ≡ length born → Every (Has (born ++ slots)) (fresh_objects n slots)
 fresh_has [] born n e = tt
 fresh_has (s ∷ more) born n e =
     let long : n + 1 ≡ length (born ++ s ∷ []) = omega (arith, e, length-append born (s ∷ [])) in (
@@ -117,7 +114,7 @@ fresh_has (s ∷ more) born n e =
         known = omega (arith, e, length-append born (s ∷ more));
         slots = fresh_slots s ∙ sym (ap (λ k. get_or (born ++ s ∷ more) k []) e ∙ get_or-append_seam born s more []);
       },
-      subst (λ l. Each (Has l) (fresh_objects (n + 1) more)) (append_assoc born (s ∷ []) more)
+      subst (λ l. Every (Has l) (fresh_objects (n + 1) more)) (append_assoc born (s ∷ []) more)
           (fresh_has more (born ++ s ∷ []) (n + 1) long),
     )
 
@@ -173,18 +170,18 @@ module _ (born : List (List Slot)) where
   put_has : (n offset : ℕ) (v : Value) (s : State) → StateHas born s → StateHas born (objects.with_scalar n offset v s)
   unfolding objects.with_scalar
   put_has n offset v s h = record {
-    globals = each_map (Has born) (objects.put_object n offset v) (still_has _ (put_still n offset v)) s.globals h.globals;
-    calls = each_map (CallHas born) (objects.put_call n offset v) (λ c e.
-        each_map (Has born) (objects.put_object n offset v) (still_has _ (put_still n offset v)) c.locals e) s.calls h.calls;
+    globals = every_map (Has born) (objects.put_object n offset v) (still_has _ (put_still n offset v)) s.globals h.globals;
+    calls = every_map (CallHas born) (objects.put_call n offset v) (λ c e.
+        every_map (Has born) (objects.put_object n offset v) (still_has _ (put_still n offset v)) c.locals e) s.calls h.calls;
     block = h.block;
   }
 
   pub clear_has : (n : ℕ) (s : State) → StateHas born s → StateHas born (objects.with_cleared n s)
   unfolding objects.with_cleared
   clear_has n s h = record {
-    globals = each_map (Has born) (objects.clear_object n) (still_has _ (clear_still n)) s.globals h.globals;
-    calls = each_map (CallHas born) (objects.clear_call n) (λ c e.
-        each_map (Has born) (objects.clear_object n) (still_has _ (clear_still n)) c.locals e) s.calls h.calls;
+    globals = every_map (Has born) (objects.clear_object n) (still_has _ (clear_still n)) s.globals h.globals;
+    calls = every_map (CallHas born) (objects.clear_call n) (λ c e.
+        every_map (Has born) (objects.clear_object n) (still_has _ (clear_still n)) c.locals e) s.calls h.calls;
     block = h.block;
   }
 
@@ -207,8 +204,8 @@ module _ (born : List (List Slot)) where
   beside_has : (s t : State) → t.globals ≡ s.globals → t.calls ≡ s.calls → t.block ≡ s.block → StateHas born s
       → StateHas born t
   beside_has s t g c b h = record {
-    globals = subst (Each (Has born)) (sym g) h.globals;
-    calls = subst (Each (CallHas born)) (sym c) h.calls;
+    globals = subst (Every (Has born)) (sym g) h.globals;
+    calls = subst (Every (CallHas born)) (sym c) h.calls;
     block = subst (SavedHas born) (sym b) h.block;
   }
 
@@ -342,7 +339,7 @@ module _ {born : List (List Slot)} where
   pub safe_leave : Safe born Any act.leave
   unfolding act.leave
   safe_leave = safe_seq (safe_changed act.left_call
-      (λ s h. record { globals = h.globals; calls = each_but_last (CallHas born) s.calls h.calls; block = h.block })) safe_mark
+      (λ s h. record { globals = h.globals; calls = every_but_last (CallHas born) s.calls h.calls; block = h.block })) safe_mark
 
   pub safe_finish : {A : Type 0} {P : A → Type 0} → Safe born P act.finish
   unfolding act.finish
@@ -427,7 +424,7 @@ enter_keeps born function bytes slots r s = by_frame (frame_below (act.top_of r.
           many = omega (arith, length-append born slots, s.many);
           state = record {
             globals = old.globals;
-            calls = each_and_last (CallHas (born ++ slots)) r.state.calls (entered_call function frame r.next slots) old.calls
+            calls = every_and_last (CallHas (born ++ slots)) r.state.calls (entered_call function frame r.next slots) old.calls
                 (fresh_has slots born r.next (sym s.many));
             block = old.block;
           };
@@ -435,7 +432,7 @@ enter_keeps born function bytes slots r s = by_frame (frame_below (act.top_of r.
 
 -- ---- the object of a number
 
-found_has : {born : List (List Slot)} (n : ℕ) (os : List Object) (o : Object) → Each (Has born) os
+found_has : {born : List (List Slot)} (n : ℕ) (os : List Object) (o : Object) → Every (Has born) os
     → objects.find_object n os ≡ Some o → (o.number ≡ n) × Has born o
 found_has n [] o h e = absurd (grind (arith, e))
 found_has {born} n (x ∷ os) o h e = by_bool (λ f. found_has n os o h.1 f) (nat_eq x.number n) refl e
@@ -457,7 +454,7 @@ either_found : (o : Object) (a b : Option Object) → objects.or_else a b ≡ So
 either_found o (Some x) b e P h g = h e
 either_found o None b e P h g = g e
 
-local_has : {born : List (List Slot)} (n : ℕ) (cs : List Call) (o : Object) → Each (CallHas born) cs
+local_has : {born : List (List Slot)} (n : ℕ) (cs : List Call) (o : Object) → Every (CallHas born) cs
     → objects.find_local n cs ≡ Some o → (o.number ≡ n) × Has born o
 local_has n [] o h e = absurd (grind (arith, e))
 local_has {born} n (c ∷ cs) o h e = either_found o (objects.find_object n c.locals) (objects.find_local n cs) e
