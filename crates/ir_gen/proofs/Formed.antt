@@ -29,6 +29,7 @@ use Rattle.ir_gen.specs.Serves.{Serves, ServesFunction}
 use Rattle.ir_gen.proofs.Calls.{Made, stands_self}
 use Rattle.ir_gen.proofs.Order.{function_ordered}
 use Rattle.ir_gen.proofs.StmtRows.{function_fits}
+use Rattle.ir_gen.proofs.StmtDepths.{fits_frame, jumps_inside}
 use Rattle.ir_gen.proofs.Served.{FormOf, same_states}
 
 abbrev slots_in : IrLocal → List Slot
@@ -73,6 +74,8 @@ serves_of core x = record {
     bytes = λ w. (function_fits w core.structs (after.objects_of core.structs x) (after.is_main x) x).bytes_in;
     helpers = λ w. (function_fits w core.structs (after.objects_of core.structs x) (after.is_main x) x).helped_in;
   };
+  depths = fits_frame core.structs (after.objects_of core.structs x) (after.is_main x) x;
+  jumps = jumps_inside core.structs (after.objects_of core.structs x) (after.is_main x) x;
 }
 
 function_in : (structs : List Struct) (xs : List Function) (n : ℕ) (x : Function) → slice_get xs n ≡ Some x

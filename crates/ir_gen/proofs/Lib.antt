@@ -13,3 +13,5 @@ pub mod Formed
 pub mod Weighing
 pub mod Rows
 pub mod StmtRows
+pub mod Depths
+pub mod StmtDepths

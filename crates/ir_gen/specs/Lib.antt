@@ -5,3 +5,4 @@ pub mod Locals
 pub mod Form
 pub mod Serves
 pub mod Sizes
+pub mod Ranges

@@ -1,5 +1,6 @@
 -- A form serves a program: its run has the same states after the same marks and the same stops, it has the program's
--- functions and variables, its steps are no longer than the cost table says, and between two marks it makes no step twice.
+-- functions and variables, its steps are no longer than the cost table says and find room in the frame for what they leave,
+-- and between two marks it makes no step twice.
 use Rattle.std.specs.Prelude.{◌≡◌, ℕ, List, ◌++◌, length, Some, slice_get}
 use Rattle.base16.specs.declared.reading.Reading.{Reading}
 use Rattle.core_tree.specs.declared.program.Core.{Core}
@@ -16,6 +17,7 @@ use Rattle.ir.specs.Machine as m
 use Rattle.ir.specs.Laws.{MakesStepsOnce}
 use Rattle.ir_gen.specs.Form.{locals_from, globals_from}
 use Rattle.ir_gen.specs.Sizes.{FitsRows}
+use Rattle.ir_gen.specs.Ranges.{FitsFrame, JumpsInside}
 
 -- no rule is broken
 abbrev pub IsDefined : CState → Type 0
@@ -41,6 +43,9 @@ pub record ServesFunction (core : Core) (x : Function) (fn : IrFunction) : Type 
   pub locals : fn.locals ≡ locals_from core.structs x 0 (x.params ++ x.locals)
   -- the steps of each node fit its row of the cost table and use one helper routine at most
   pub fits : FitsRows x fn.steps
+  -- its temporaries have room in the frame, and its jumps stay in it
+  pub depths : FitsFrame x fn.steps
+  pub jumps : JumpsInside fn.steps
 
 pub record Serves (core : Core) (ir : Ir) : Type 0 where
   pub same : SameStates core ir
