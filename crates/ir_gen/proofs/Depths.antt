@@ -348,7 +348,8 @@ module _ (structs : List Struct) where
       low = λ ty node.
           l_then (args_height 0 xs) (args_height 0 xs) (args_height 0 xs)
           (c.args_code (map (tree.coded structs) (map fc xs))) _ (omega arith) (omega arith) (args_at xs)
-          (l_then (args_height 0 xs) (args_height 0 xs) (args_height 0 xs) (single node (λ d. step.Call d g (length (map (tree.coded structs) (map fc xs)))))
+          (l_then (args_height 0 xs) (args_height 0 xs) (args_height 0 xs)
+          (single node (λ d. step.Call d g (length (map (tree.coded structs) (map fc xs)))))
           (single node (λ d. step.Result d true)) (omega arith) (omega arith)
           (l_single (args_height 0 xs) node _ (λ d. omega (arith, args_many 0 xs)) (λ d. refl))
           (l_single (args_height 0 xs) node _ (λ d. omega (arith, args_some 0 xs)) (λ d. refl)));

@@ -15,3 +15,5 @@ pub mod Rows
 pub mod StmtRows
 pub mod Depths
 pub mod StmtDepths
+pub mod LawfulTrees
+pub mod LawfulStatements

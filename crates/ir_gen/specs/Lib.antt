@@ -6,3 +6,4 @@ pub mod Form
 pub mod Serves
 pub mod Sizes
 pub mod Ranges
+pub mod Plain

@@ -1,5 +1,7 @@
 ghost use Rattle.core_tree.specs.declared.program.Core.{Core};
+ghost use Rattle.core_tree.specs.LawfulCore.{LawfulCore};
 ghost use Rattle.ir_gen.specs.Form.{IsBuilt, form_of};
+ghost use Rattle.ir_gen.specs.Plain.{IsPlain};
 ghost use Rattle.ir_gen.specs.Serves.{Serves};
 
 /// The form of a program serves it: the form's run has the program's states and stops, it has the functions and variables
@@ -7,4 +9,14 @@ ghost use Rattle.ir_gen.specs.Serves.{Serves};
 /// twice.
 pub fn forms_serve_their_programs()
     ensures { (core : Core) → IsBuilt core → Serves core (form_of core) }
+{}
+
+/// A form is made of every lawful program without annotated statements.
+pub fn lawful_programs_are_built()
+    ensures { (core : Core) → LawfulCore core → IsPlain core → IsBuilt core }
+{}
+
+/// So the form of a lawful program without annotated statements serves it.
+pub fn forms_serve_lawful_programs()
+    ensures { (core : Core) → LawfulCore core → IsPlain core → Serves core (form_of core) }
 {}

@@ -3,4 +3,6 @@
 
 mod laws;
 
-pub use laws::forms_serve_their_programs;
+pub use laws::{
+    forms_serve_lawful_programs, forms_serve_their_programs, lawful_programs_are_built,
+};
