@@ -1,5 +1,5 @@
 -- The form that is made of a program serves it.
-use Rattle.std.proofs.Common.{◌≡◌, ℕ, zero, suc, ◌+◌, List, [], ◌∷◌, ◌++◌, length, map, take, Option, Some, None, true, refl, sym, ap, ◌∙◌, subst, arith}
+use Rattle.std.proofs.Common.{◌≡◌, ℕ, zero, suc, ◌+◌, ◌<◌, List, [], ◌∷◌, ◌++◌, length, map, take, Option, Some, None, true, refl, sym, ap, ◌∙◌, subst, arith}
 use Rattle.std.specs.Prelude.{slice_get}
 use Rattle.base16.specs.declared.image.Kind.{Kind}
 use Rattle.core_tree.specs.declared.program.Core.{Core}
@@ -10,6 +10,7 @@ use Rattle.core_tree.specs.declared.types.Struct.{Struct}
 use Rattle.core_tree.specs.declared.types.Ty.{Ty}
 use Rattle.core_tree.specs.declared.types.Slot.{Slot}
 use Rattle.core_tree.specs.Layout.{layout, kind_of}
+use Rattle.core_tree.specs.LawfulCore.{Every, IsFunction, LawfulCore, scope_of, text_of}
 use Rattle.c_values.specs.declared.value.Value.TheVariants.{Undefined}
 use Rattle.c_values.specs.declared.value.Cell.{Cell}
 use Rattle.c_values.specs.declared.state.Object.{Object}
@@ -25,11 +26,14 @@ use Rattle.ir_gen.specs.Built.{stmts}
 use Rattle.ir_gen.specs.Form as f
 use Rattle.ir_gen.specs.Locals as locals
 use Rattle.ir_gen.specs.Form.{IsBuilt, AreBuilt, AreScalars, DeclareTheirOwn, form_of, function_of, locals_from, globals_from}
+use Rattle.ir_gen.specs.Names.{AllNamed}
 use Rattle.ir_gen.specs.Serves.{Serves, ServesFunction}
 use Rattle.ir_gen.proofs.Calls.{Made, stands_self}
 use Rattle.ir_gen.proofs.Order.{function_ordered}
 use Rattle.ir_gen.proofs.StmtRows.{function_fits}
 use Rattle.ir_gen.proofs.StmtDepths.{fits_frame, jumps_inside}
+use Rattle.ir_gen.proofs.Naming.{HasScope, named_at}
+use Rattle.ir_gen.proofs.StmtNaming.{function_named}
 use Rattle.ir_gen.proofs.Served.{FormOf, same_states}
 
 abbrev slots_in : IrLocal → List Slot
@@ -192,6 +196,56 @@ form_is core h = record {
   ordered = λ n p fn s e g. ordered_in core.structs core.functions n p fn s e g;
 }
 
+-- ---- what the steps name
+
+within : {A : Type 0} (xs : List A) (n : ℕ) (x : A) → slice_get xs n ≡ Some x → n < length xs
+within [] n x e = absurd (grind (arith, e))
+within (y ∷ xs) zero x e = omega arith
+within (y ∷ xs) (suc n) x e = omega (arith, within xs n x e)
+
+every_at : {A : Type 0} (P : A → Type 0) (xs : List A) (n : ℕ) (x : A) → Every P xs → slice_get xs n ≡ Some x → P x
+every_at P [] n x h e = absurd (grind (arith, e))
+every_at {A} P (y ∷ xs) zero x h e = let same : y ≡ x = ap or_this e in subst P same h.0
+  where
+    or_this : Option A → A
+    or_this None = y
+    or_this (Some z) = z
+every_at P (y ∷ xs) (suc n) x h e = every_at P xs n x h.1 e
+
+locals_many : (structs : List Struct) (x : Function) (n : ℕ) (ts : List Ty) → length (locals_from structs x n ts) ≡ length ts
+locals_many structs x n [] = refl
+locals_many structs x n (t ∷ ts) = ap suc (locals_many structs x (n + 1) ts)
+
+functions_many : (structs : List Struct) (xs : List Function) → length (map (function_of structs) xs) ≡ length xs
+functions_many structs [] = refl
+functions_many structs (x ∷ xs) = ap suc (functions_many structs xs)
+
+has_scope : (core : Core) (x : Function) → HasScope (form_of core) (function_of core.structs x) (scope_of core true x)
+has_scope core x = record {
+  objects = λ n t e.
+      omega (arith, within (x.params ++ x.locals) n t e, locals_many core.structs x 0 (x.params ++ x.locals));
+  globals = λ n g e. omega (arith, within core.globals n g e, same_many core 0 core.globals);
+  functions = λ n g e. (function_of core.structs g, function_in core.structs core.functions n g e, refl);
+}
+
+function_names : (core : Core) → LawfulCore core → (n : ℕ) (x : Function) → slice_get core.functions n ≡ Some x
+    → AllNamed (form_of core) (function_of core.structs x)
+function_names core h n x e = λ p s at_p.
+    let own = every_at (IsFunction core true) core.functions n x h.functions e in
+    named_at (form_of core) (function_of core.structs x) p (function_of core.structs x).steps s
+    (function_named (form_of core) (function_of core.structs x) core.structs (after.objects_of core.structs x)
+    (after.is_main x) (text_of core true x) (length x.params) x.node x.body refl own.body (has_scope core x)) at_p
+
+names_of : (core : Core) → LawfulCore core → (n : ℕ) (x : Function) (fn : IrFunction) → slice_get core.functions n ≡ Some x
+    → slice_get (form_of core).functions n ≡ Some fn → AllNamed (form_of core) fn
+names_of core h n x fn e g =
+    let same : function_of core.structs x ≡ fn = ap or_that (sym (function_in core.structs core.functions n x e) ∙ g) in
+    subst (λ (z : IrFunction). AllNamed (form_of core) z) same (function_names core h n x e)
+  where
+    or_that : Option IrFunction → IrFunction
+    or_that None = fn
+    or_that (Some z) = z
+
 -- the form that is made of a program serves it
 pub form_serves : (core : Core) → IsBuilt core → Serves core (form_of core)
 form_serves core h =
@@ -199,6 +253,8 @@ form_serves core h =
     record {
       same = same_states core (form_of core) form;
       functions = λ n x e. (function_of core.structs x, function_in core.structs core.functions n x e, serves_of core x);
+      many = functions_many core.structs core.functions;
+      names = names_of core;
       globals = refl;
       once = λ rs. steps_once (form_of core) rs form.ordered;
     }

@@ -17,3 +17,5 @@ pub mod Depths
 pub mod StmtDepths
 pub mod LawfulTrees
 pub mod LawfulStatements
+pub mod Naming
+pub mod StmtNaming

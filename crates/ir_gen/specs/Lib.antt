@@ -7,3 +7,4 @@ pub mod Serves
 pub mod Sizes
 pub mod Ranges
 pub mod Plain
+pub mod Names

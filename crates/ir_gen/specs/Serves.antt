@@ -1,11 +1,12 @@
 -- A form serves a program: its run has the same states after the same marks and the same stops, it has the program's
--- functions and variables, its steps are no longer than the cost table says and find room in the frame for what they leave,
--- and between two marks it makes no step twice.
+-- functions and variables, its steps are no longer than the cost table says, find room in the frame for what they leave and
+-- name what is there, and between two marks it makes no step twice.
 use Rattle.std.specs.Prelude.{◌≡◌, ℕ, List, ◌++◌, length, Some, slice_get}
 use Rattle.base16.specs.declared.reading.Reading.{Reading}
 use Rattle.core_tree.specs.declared.program.Core.{Core}
 use Rattle.core_tree.specs.declared.program.Function.{Function}
 use Rattle.core_tree.specs.Heights.{frame_bytes}
+use Rattle.core_tree.specs.LawfulCore.{LawfulCore}
 use Rattle.c_meaning.specs.declared.outcome.CState.{CState}
 use Rattle.c_meaning.specs.declared.outcome.CState.TheVariants as c
 use Rattle.c_meaning.specs.After as meaning
@@ -18,6 +19,7 @@ use Rattle.ir.specs.Laws.{MakesStepsOnce}
 use Rattle.ir_gen.specs.Form.{locals_from, globals_from}
 use Rattle.ir_gen.specs.Sizes.{FitsRows}
 use Rattle.ir_gen.specs.Ranges.{FitsFrame, JumpsInside}
+use Rattle.ir_gen.specs.Names.{AllNamed}
 
 -- no rule is broken
 abbrev pub IsDefined : CState → Type 0
@@ -52,6 +54,10 @@ pub record Serves (core : Core) (ir : Ir) : Type 0 where
   -- the functions in order
   pub functions : (n : ℕ) (x : Function) → slice_get core.functions n ≡ Some x
       → (fn : IrFunction) × (slice_get ir.functions n ≡ Some fn) × ServesFunction core x fn
+  pub many : length ir.functions ≡ length core.functions
+  -- what the steps of a lawful program name is there
+  pub names : LawfulCore core → (n : ℕ) (x : Function) (fn : IrFunction) → slice_get core.functions n ≡ Some x
+      → slice_get ir.functions n ≡ Some fn → AllNamed ir fn
   -- the variables where they stand
   pub globals : ir.globals ≡ globals_from core 0 core.globals
   -- between two marks no step is made twice
