@@ -6,3 +6,5 @@ pub mod Services
 pub mod Outputs
 pub mod Frames
 pub mod Segments
+pub mod Steady
+pub mod Counting
