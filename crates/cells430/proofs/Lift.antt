@@ -9,19 +9,18 @@ use Rattle.base16.proofs.Writes.{put-same}
 use Rattle.isa430.specs.declared.instr.TwoOp.{TwoOp}
 use Rattle.isa430.specs.declared.instr.TwoOp.TheVariants.{Mov}
 use Rattle.isa430.specs.declared.instr.Src.{Src}
-use Rattle.isa430.specs.declared.instr.Src.TheVariants.{Indexed}
 use Rattle.isa430.specs.declared.instr.Dst.{Dst}
-use Rattle.isa430.specs.declared.instr.Dst.TheVariants.{Reg as ToReg}
 use Rattle.isa430.specs.declared.instr.Cond.{Cond}
 use Rattle.isa430.specs.declared.instr.Instr.{Instr}
 use Rattle.isa430.specs.declared.instr.Instr.TheVariants.{Two, Jump}
 use Rattle.isa430.specs.Table.{size_of, code_of, WordsAt}
 use Rattle.isa430.proofs.Formats.{code_size}
 use Rattle.core430.specs.declared.operand.Place.{Place}
-use Rattle.core430.specs.declared.operand.Place.TheVariants.{InRegister, InMemory}
+use Rattle.core430.specs.declared.operand.Place.TheVariants.{InMemory}
 use Rattle.core430.specs.Registers.{set_reg}
 use Rattle.core430.specs.Bytes.{with_byte}
-use Rattle.core430.specs.Instructions.{Sets, Stores, is_taken, jump_target}
+use Rattle.core430.specs.Operands.{raised, value_at}
+use Rattle.core430.specs.Instructions.{Effect, Sets, Stores, two_effect, is_taken, jump_target}
 use Rattle.core430.specs.Step.{State, Outcome, Next, step, past, fetched}
 use Rattle.core430.specs.Uses.{AreWords, access_bytes, place_bytes, uses_destination, operand_changes, changes_if, step_changes}
 use Rattle.core430.proofs.Truths.{and-both, or-left, or-right}
@@ -30,7 +29,6 @@ use Rattle.run430.specs.Code.{Here, Owns, put_byte}
 use Rattle.run430.proofs.Words.{Agrees-self, small}
 use Rattle.run430.proofs.Compose.{step-words}
 use Rattle.run430.proofs.Rules.{Source, Target, next as next_regs, two_at, fetches, two_sets, two_stores, two_goes, jump}
-use Rattle.run430.proofs.Operands.{byte_from_at, byte_to_register}
 use Rattle.ideal430.specs.Places.{is_in_segment}
 use Rattle.ideal430.specs.Settled.{Bytes, settled_after}
 use Rattle.ideal430.specs.Ideal.{Ideal, Meter, moved, after, free, next_if, next}
@@ -168,6 +166,12 @@ only_byte a = or-left (nat_eq a a) _ (eq-eqb a a refl)
 
 -- ---- rules
 
+-- what an instruction of two operands comes to whose source has this value
+abbrev pub two_given : TwoOp → Bool → Src → Dst → (r m : ℕ → ℕ) → Place → (value : ℕ) → Effect
+two_given op byte src dst r m d value =
+    two_effect op byte (r 0) (raised byte (next_regs (Two op byte src dst) r) src) m (r 2) d
+    (value_at byte (next_regs (Two op byte src dst) r) m d) value
+
 module _ (c : ℕ → ℕ) (lo hi seg sp : ℕ) (ps : ℕ → ℕ) (g : Ground lo hi seg sp) (Q : Ideal → Type 0) where
   pub own : (f : Cells) (m : ℕ → ℕ) (st : Bytes) → Facts c lo hi f m st → Owns (IsSettled st) lo hi
   own f m st h a l k = let low = g.low in let high = g.high in h.lasting a (code_fixed a (omega arith) (omega arith))
@@ -297,14 +301,32 @@ module _ (c : ℕ → ℕ) (lo hi seg sp : ℕ) (ps : ℕ → ℕ) (g : Ground l
       went n f r m st x q t (one_step (IsSettled st) (InSegment seg) (record { regs = r; memory = m }) t run) wr h.words
       (λ k. facts_settle c lo hi f seg sp ps s (r2 1) _ m st (omega (arith, stack)) h) more
 
-  -- a byte of the frame goes to R12: the other byte of its word need not be settled
-  pub loads_byte : (n : ℕ) (f : Cells) (s : Shape seg sp ps f) (r m : ℕ → ℕ) (st : Bytes) (x : Course) (q : Meter) (o v : ℕ)
-      → Facts c lo hi f m st → AreWords r → Here c lo hi (r 0) (Two Mov true (Indexed 1 o) (ToReg 12)) → r 1 ≡ sp
-      → sp + o < 65536 → f (sp + o) ≡ Some (Byte (Some v))
-      → ((st2 : Bytes) (q2 : Meter) → Facts c lo hi f m st2 → AreWords (set_reg (set_reg r 0 (r 0 + 4)) 12 v)
-      → Leads n (at seg ps (set_reg (set_reg r 0 (r 0 + 4)) 12 v) m st2 x q2) Q) → Leads (suc n) (at seg ps r m st x q) Q
-  loads_byte n f s r m st x q o v h wr here stack low cell more =
-      let value = h.stands (sp + o) (Byte (Some v)) cell in
-      sets n f s r m st x q Mov true (Indexed 1 o) (ToReg 12) (InMemory (sp + o)) (InRegister 12)
-      (set_reg (set_reg r 0 (r 0 + 4)) 12 v) h wr here (byte_from_at stack low) byte_to_register
-      (ap (λ (y : ℕ). Sets (set_reg (set_reg r 0 (r 0 + 4)) 12 y)) value.0) value.1 tt refl stack more
+  -- an instruction whose source is a word that is a cell's
+  pub loads : (n : ℕ) (f : Cells) (s : Shape seg sp ps f) (r m : ℕ → ℕ) (st : Bytes) (x : Course) (q : Meter) (op : TwoOp)
+      (src : Src) (dst : Dst) (a : ℕ) (d : Place) (w : ℕ) (r2 : ℕ → ℕ) → Facts c lo hi f m st → AreWords r
+      → Here c lo hi (r 0) (Two op false src dst)
+      → Source false (next_regs (Two op false src dst) r) src (InMemory a)
+      → Target false (next_regs (Two op false src dst) r) dst d → f a ≡ Some (Word (Some w))
+      → two_given op false src dst r m d w ≡ Sets r2
+      → CoversIf (IsSettled st) (uses_destination op) false d → r2 0 ≡ r 0 + size_of (Two op false src dst) → r2 1 ≡ sp
+      → ((st2 : Bytes) (q2 : Meter) → Facts c lo hi f m st2 → AreWords r2 → Leads n (at seg ps r2 m st2 x q2) Q)
+      → Leads (suc n) (at seg ps r m st x q) Q
+  loads n f s r m st x q op src dst a d w r2 h wr here sp1 tp cell e rb pc stack more =
+      let value = h.stands a (Word (Some w)) cell in
+      sets n f s r m st x q op false src dst (InMemory a) d r2 h wr here sp1 tp
+      (ap (λ (y : ℕ). two_given op false src dst r m d y) value.0 ∙ e) (value.1, value.2) rb pc stack more
+
+  -- the same of a byte: the other byte of its word need not be settled
+  pub loads_byte : (n : ℕ) (f : Cells) (s : Shape seg sp ps f) (r m : ℕ → ℕ) (st : Bytes) (x : Course) (q : Meter) (op : TwoOp)
+      (src : Src) (dst : Dst) (a : ℕ) (d : Place) (v : ℕ) (r2 : ℕ → ℕ) → Facts c lo hi f m st → AreWords r
+      → Here c lo hi (r 0) (Two op true src dst)
+      → Source true (next_regs (Two op true src dst) r) src (InMemory a)
+      → Target true (next_regs (Two op true src dst) r) dst d → f a ≡ Some (Byte (Some v))
+      → two_given op true src dst r m d v ≡ Sets r2
+      → CoversIf (IsSettled st) (uses_destination op) true d → r2 0 ≡ r 0 + size_of (Two op true src dst) → r2 1 ≡ sp
+      → ((st2 : Bytes) (q2 : Meter) → Facts c lo hi f m st2 → AreWords r2 → Leads n (at seg ps r2 m st2 x q2) Q)
+      → Leads (suc n) (at seg ps r m st x q) Q
+  loads_byte n f s r m st x q op src dst a d v r2 h wr here sp1 tp cell e rb pc stack more =
+      let value = h.stands a (Byte (Some v)) cell in
+      sets n f s r m st x q op true src dst (InMemory a) d r2 h wr here sp1 tp
+      (ap (λ (y : ℕ). two_given op true src dst r m d y) value.0 ∙ e) value.1 rb pc stack more

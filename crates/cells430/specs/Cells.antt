@@ -1,11 +1,11 @@
 -- What stands in memory, by address: scalars, temporaries, return words, link words, outputs, stamps. A cell has its value
 -- where it is defined, and then its bytes are settled. So one map says of each address both what stands there and that it
 -- counts.
-use Rattle.std.specs.Prelude.{◌≡◌, ◌<◌, ◌≤◌, ℕ, ◌+◌, ◌%◌, true, ◌&&◌, ◌||◌, Option, Some, None, if◌then◌else◌, nat_eq, nat_le, nat_lt}
+use Rattle.std.specs.Prelude.{◌≡◌, ◌<◌, ◌≤◌, ℕ, ◌+◌, ◌-◌, ◌/◌, ◌%◌, true, ◌&&◌, ◌||◌, List, length, slice_get, Option, Some, None, if◌then◌else◌, nat_eq, nat_le, nat_lt}
 use Rattle.base16.specs.Board.{outputs_start, outputs_end, stack_start, stack_end, segment_start, segment_top, data_start, data_end}
 use Rattle.core430.specs.Bytes.{byte_at}
 use Rattle.core430.specs.Uses.{AreWords}
-use Rattle.ideal430.specs.Places.{is_fixed, segment_of}
+use Rattle.ideal430.specs.Places.{is_between, is_even, is_fixed, segment_of}
 use Rattle.ideal430.specs.Settled.{Bytes}
 
 -- ---- cells
@@ -75,3 +75,15 @@ abbrev pub unlinked : (segment sp : ℕ) → Cells → Cells
 unlinked segment sp f = λ b.
     if (nat_le (segment_start segment) b && nat_lt b sp) || (nat_le (segment_top segment) b && nat_lt b stack_end) then None
     else f b
+
+-- ---- outputs
+
+-- the cells of the outputs: their length, the words that there are, and the places that are left of the 256
+abbrev pub output_cell : List ℕ → Cells
+output_cell os b =
+    if nat_eq b outputs_start then Some (Word (Some (length os)))
+    else (if is_even b then Some (Word (slice_get os ((b - outputs_start) / 2 - 1))) else None)
+
+-- cells, and those of these outputs
+abbrev pub with_outputs : List ℕ → Cells → Cells
+with_outputs os f = λ b. if is_between outputs_start outputs_end b then output_cell os b else f b
