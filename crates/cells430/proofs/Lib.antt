@@ -6,6 +6,7 @@ pub mod Services
 pub mod Outputs
 pub mod OutputCells
 pub mod Frames
+pub mod Framed
 pub mod Segments
 pub mod Steady
 pub mod Counting

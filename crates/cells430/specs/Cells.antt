@@ -87,3 +87,23 @@ output_cell os b =
 -- cells, and those of these outputs
 abbrev pub with_outputs : List ℕ → Cells → Cells
 with_outputs os f = λ b. if is_between outputs_start outputs_end b then output_cell os b else f b
+
+-- ---- a frame
+
+-- a cell with no value yet
+abbrev pub IsBlank : Cell → Type 0
+IsBlank (Word None) = Unit {0}
+IsBlank (Byte None) = Unit {0}
+IsBlank (Word (Some w)) = ⊥
+IsBlank (Byte (Some v)) = ⊥
+
+-- the cells of a new frame of so many bytes, by their offsets
+pub record IsLayout (bytes : ℕ) (inner : Cells) : Type 0 where
+  pub even : bytes % 2 ≡ 0
+  pub within : (o : ℕ) (x : Cell) → inner o ≡ Some x → o < bytes
+  pub fits : (o : ℕ) (x : Cell) → inner o ≡ Some x → Fits inner o x
+  pub blank : (o : ℕ) (x : Cell) → inner o ≡ Some x → IsBlank x
+
+-- cells, and those of a frame at sp
+abbrev pub framed : (sp bytes : ℕ) → (inner f : Cells) → Cells
+framed sp bytes inner f = λ b. if nat_le sp b && nat_lt b (sp + bytes) then inner (b - sp) else f b
