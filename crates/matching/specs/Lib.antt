@@ -1,0 +1,4 @@
+pub mod Laws
+pub mod Matches
+pub mod Said
+pub mod Simulates

@@ -1,0 +1,6 @@
+//! How a state of a C program stands in the words of memory, and when the machine with unbroken power simulates a program.
+#![tactic(auto)]
+
+mod laws;
+
+pub use laws::settled_bytes_match;
