@@ -105,7 +105,8 @@ m a =
     else (if nat_eq a 0x4008 then 1 else 0))))))))
 
 abbrev noted : List Noted
-noted = record { address = 0x4000; old = 9 } ∷ record { address = 0x1A02; old = 0x7777 } ∷ record { address = 0x1A00; old = 0 } ∷ []
+noted = record { address = 0x4000; old = 9 } ∷ record { address = 0x1A02; old = 0x7777 }
+    ∷ record { address = 0x1A00; old = 0 } ∷ []
 
 word_there : (k : ℕ → ℕ) (a b v w : ℕ) → a ≡ b → v ≡ w → WordStands k b w → WordStands k a v
 word_there k a b v w e f h = subst (λ x. WordStands k x v) (sym e) (subst (λ x. WordStands k b x) (sym f) h)
@@ -122,7 +123,8 @@ parts_stand k g outputs words g_is c_is p_is low high outs = record {
         (tt, tt),
         (
           (tt, tt),
-          ((word_there k _ 0x20F6 _ 0x4000 (ap (λ x. 0x20F4 + x + 0) p_stands) (ap (λ x. (x + 0) % 65536) g_stands) p_is, tt), tt),
+          ((word_there k _ 0x20F6 _ 0x4000 (ap (λ x. 0x20F4 + x + 0) p_stands) (ap (λ x. (x + 0) % 65536) g_stands) p_is, tt),
+          tt),
         ),
       ),
     ),
@@ -145,7 +147,8 @@ the_state_is_matched = record {
       (record { count = record { low = refl; high = refl }; words = (record { low = refl; high = refl }, tt) });
   block = record {
     count = refl;
-    words = parts_stand (put_back noted m) (pos 9) [] 3 (record { low = refl; high = refl }) refl (record { low = refl; high = refl })
+    words = parts_stand (put_back noted m) (pos 9) [] 3 (record { low = refl; high = refl }) refl
+        (record { low = refl; high = refl })
         (record { low = refl; high = refl }) (record { low = refl; high = refl })
         (record { count = record { low = refl; high = refl }; words = tt });
   };

@@ -92,7 +92,8 @@ stamps_same m k core n [] s h = tt
 stamps_same m k core n (x ∷ xs) s h =
     let a = stamp_address core n in
     let more = on_right (is_in_word a) (λ b. is_in_word (a + 2) b || stamps_said core (n + 1) xs b) m k s in (
-      stamp_same m k a x (on_left (is_in_word a) _ m k s) (on_left (is_in_word (a + 2)) (stamps_said core (n + 1) xs) m k more) h.0,
+      stamp_same m k a x (on_left (is_in_word a) _ m k s)
+          (on_left (is_in_word (a + 2)) (stamps_said core (n + 1) xs) m k more) h.0,
       stamps_same m k core (n + 1) xs (on_right (is_in_word (a + 2)) (stamps_said core (n + 1) xs) m k more) h.1,
     )
 
@@ -107,6 +108,8 @@ words_same m k a (w ∷ ws) s h = (
 pub state_same : (core : Core) (s : Saved) (m k : ℕ → ℕ) → SameOn (said core s) m k → WordsAre core s m → WordsAre core s k
 state_same core s m k same h =
     let stamps : Bytes = stamps_said core 0 s.stamps in
+    let count : Bytes = is_in_word outputs_start in
+    let words : Bytes = words_said (outputs_start + 2) s.outputs in
     let outputs : Bytes = λ b. is_in_word outputs_start b || words_said (outputs_start + 2) s.outputs b in
     let more = on_right (objects_said (placed core s) (placed core s)) (λ b. stamps b || outputs b) m k same in
     let rest = on_right stamps outputs m k more in
@@ -114,8 +117,8 @@ state_same core s m k same h =
       objects = objects_same m k (placed core s) (placed core s) (on_left _ (λ b. stamps b || outputs b) m k same) h.objects;
       stamps = stamps_same m k core 0 s.stamps (on_left stamps outputs m k more) h.stamps;
       outputs = record {
-        count = word_same m k outputs_start _ (on_left (is_in_word outputs_start) (words_said (outputs_start + 2) s.outputs) m k rest) h.outputs.count;
-        words = words_same m k (outputs_start + 2) s.outputs (on_right (is_in_word outputs_start) (words_said (outputs_start + 2) s.outputs) m k rest) h.outputs.words;
+        count = word_same m k outputs_start _ (on_left count words m k rest) h.outputs.count;
+        words = words_same m k (outputs_start + 2) s.outputs (on_right count words m k rest) h.outputs.words;
       };
     }
 
@@ -148,7 +151,8 @@ pub put_back_same : (earlier : List Bytes) (xs ys : List Noted) (settled : Bytes
     → SameOn settled m k → SameOn (settled_put_back xs earlier settled) (put_back xs m) (put_back ys k)
 put_back_same [] [] [] settled m k agree same = same
 put_back_same (before ∷ earlier) (x ∷ xs) (y ∷ ys) settled m k agree same =
-    record { at = one_put before (settled_put_back xs earlier settled) x y (put_back xs m) (put_back ys k) agree.0 (put_back_same earlier xs ys settled m k agree.1 same) }
+    let rest = put_back_same earlier xs ys settled m k agree.1 same in
+    record { at = one_put before (settled_put_back xs earlier settled) x y (put_back xs m) (put_back ys k) agree.0 rest }
 put_back_same [] [] (y ∷ ys) settled m k agree same = absurd agree
 put_back_same [] (x ∷ xs) ys settled m k agree same = absurd agree
 put_back_same (before ∷ earlier) [] ys settled m k agree same = absurd agree
@@ -180,6 +184,8 @@ block_same core (Some opening) (Some xs) (Some ys) earlier settled m k agree sam
 -- what goes along with the machine matches the state that the machine matches
 pub match_along : (core : Core) (s : State) (t : Ideal) → MatchesAlong core s t
 match_along core s t regs k segment block marks agrees h = record {
-  words = state_same core (kept s) t.core.memory k (on_fewer (said core (kept s)) t.settled t.core.memory k h.settled agrees.memory) h.matches.words;
-  block = block_same core s.block t.block block t.earlier t.settled t.core.memory k agrees.block_is agrees.memory h.opening h.matches.block;
+  words = state_same core (kept s) t.core.memory k
+      (on_fewer (said core (kept s)) t.settled t.core.memory k h.settled agrees.memory) h.matches.words;
+  block = block_same core s.block t.block block t.earlier t.settled t.core.memory k agrees.block_is agrees.memory
+      h.opening h.matches.block;
 }

@@ -76,7 +76,8 @@ pub record HasLeftMain (start : Ideal) (n marks : ℕ) : Type 0 where
   pub code : fetched (run n start).core ≡ Some last_call
 
 -- the machine has ended in this way, after the marks of this state, and its words match it
-pub record HasEnded (core : Core) (readings : List Reading) (s : ℕ) (kind : EndKind) (c : State) (start : Ideal) (n : ℕ) : Type 0 where
+pub record HasEnded (core : Core) (readings : List Reading) (s : ℕ) (kind : EndKind) (c : State) (start : Ideal)
+    (n : ℕ) : Type 0 where
   pub well : GoesWell core start n
   pub ended : (run n start).status ≡ Ended kind
   pub marks : (run n start).marks ≡ c.marks
