@@ -123,8 +123,10 @@ parts_stand k g outputs words g_is c_is p_is low high outs = record {
         (tt, tt),
         (
           (tt, tt),
-          ((word_there k _ 0x20F6 _ 0x4000 (ap (λ x. 0x20F4 + x + 0) p_stands) (ap (λ x. (x + 0) % 65536) g_stands) p_is, tt),
-          tt),
+          (
+            (word_there k _ 0x20F6 _ 0x4000 (ap (λ x. 0x20F4 + x + 0) p_stands) (ap (λ x. (x + 0) % 65536) g_stands) p_is, tt),
+            tt,
+          ),
         ),
       ),
     ),

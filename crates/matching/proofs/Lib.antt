@@ -1,2 +1,4 @@
+pub mod CellsMatch
 mod Example
 pub mod SameBytes
+pub mod Storing

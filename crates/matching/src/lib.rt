@@ -3,4 +3,4 @@
 
 mod laws;
 
-pub use laws::settled_bytes_match;
+pub use laws::{a_store_sets_one_cell, cells_match, settled_bytes_match};
