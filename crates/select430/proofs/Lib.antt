@@ -1,0 +1,10 @@
+pub mod Words
+pub mod Operators
+pub mod Fitting
+pub mod Resolving
+pub mod Places
+pub mod Standing
+pub mod Differing
+pub mod Jumping
+pub mod Naming
+pub mod Owning

@@ -1,0 +1,7 @@
+pub mod Labels
+pub mod Parts
+pub mod Frames
+pub mod Code
+pub mod Items
+pub mod Laying
+pub mod Laws

@@ -1,0 +1,8 @@
+//! The instructions of each step of the three-address form, as items for the assembler, and the labels that they use.
+#![tactic(auto)]
+
+mod laws;
+mod part;
+
+pub use laws::{items_keep_to_their_step, labels_differ, steps_stand_at_their_labels};
+pub use part::Part;
