@@ -301,6 +301,14 @@ module _ (ir : Ir) (rs : List Reading) where
       (close_marks rs names r) (λ b q2 e2. marked e2 (adv_flag h b to first ts j)))
   adv_act h node k first ts r j = halted
 
+  -- a store with a mark stops or makes its mark
+  pub store_only_marks : (node d : ℕ) (to : Target) (k : Kind) (x : Operand) (keeps : Keep) (f p first : ℕ)
+      (ts : List Temporary) (below : List Frame) (r : Run)
+      → Advance (λ c. ⊥) (λ c. Unit {0}) r.left (m.act ir rs node (step.Store d to k x keeps) f p first ts below r)
+  store_only_marks node d to k x keeps f p first ts below r =
+      adv_operand node first x ts r refl _ (λ v us q e. adv_before keeps us q _ (λ b ws. adv_target first to ws q _
+      (λ l xs. adv_depth d xs _ q (adv_marked q e _ _ (store_marks node l k v q) (λ w q2 e2. marked e2 tt)))))
+
   -- a turn makes a mark, wherever it stands
   pub adv_turn : {Q M : Control → Type 0} (f p : ℕ) (below : List Frame) (fn : IrFunction)
       → ((to first : ℕ) (ts : List Temporary) → p < to → M (At f to first ts below))

@@ -10,6 +10,7 @@ use Rattle.core_tree.specs.declared.types.Struct.{Struct}
 use Rattle.core_tree.specs.declared.types.Ty.{Ty}
 use Rattle.core_tree.specs.declared.types.Slot.{Slot}
 use Rattle.core_tree.specs.Layout.{layout, kind_of}
+use Rattle.core_tree.specs.Numbers.{function_numbers}
 use Rattle.core_tree.specs.LawfulCore.{Every, IsFunction, LawfulCore, scope_of, text_of}
 use Rattle.c_values.specs.declared.value.Value.TheVariants.{Undefined}
 use Rattle.c_values.specs.declared.value.Cell.{Cell}
@@ -19,6 +20,7 @@ use Rattle.c_meaning.specs.Stamps.{slots_of, stamps_if}
 use Rattle.ir.specs.declared.form.IrFunction.{IrFunction}
 use Rattle.ir.specs.declared.form.IrLocal.{IrLocal}
 use Rattle.ir.specs.declared.form.Step.{Step}
+use Rattle.ir.specs.declared.control.Control.TheVariants.{Calling}
 use Rattle.ir.specs.Machine as m
 use Rattle.ir.specs.Jumps.{JumpsAhead}
 use Rattle.ir.proofs.Once.{steps_once}
@@ -32,8 +34,10 @@ use Rattle.ir_gen.proofs.Calls.{Made, stands_self}
 use Rattle.ir_gen.proofs.Order.{function_ordered}
 use Rattle.ir_gen.proofs.StmtRows.{function_fits}
 use Rattle.ir_gen.proofs.StmtDepths.{fits_frame, jumps_inside}
+use Rattle.ir_gen.proofs.Owning.{owned_at, function_owned}
 use Rattle.ir_gen.proofs.Naming.{HasScope, named_at}
 use Rattle.ir_gen.proofs.StmtNaming.{function_named}
+use Rattle.ir_gen.proofs.Shortness.{short, program_cost}
 use Rattle.ir_gen.proofs.Served.{FormOf, same_states}
 
 abbrev slots_in : IrLocal → List Slot
@@ -69,11 +73,21 @@ made_of core x h fine ours = record {
   locals = subst (λ n. locals.stmts n x.body ≡ true) (many_objects core.structs (x.params ++ x.locals)) ours;
 }
 
+every_of : (P : ℕ → Type 0) (xs : List ℕ) → ((i n : ℕ) → slice_get xs i ≡ Some n → P n) → Every P xs
+every_of P [] h = tt
+every_of P (x ∷ xs) h = (h 0 x refl, every_of P xs (λ i n e. h (suc i) n e))
+
+abbrev IsNode : Function → ℕ → Type 0
+IsNode x n = (i : ℕ) × (slice_get (function_numbers x) i ≡ Some n)
+
 serves_of : (core : Core) (x : Function) → ServesFunction core x (function_of core.structs x)
 serves_of core x = record {
   frame = refl;
   params = refl;
   locals = refl;
+  nodes = λ p s e. owned_at (IsNode x) p (function_of core.structs x).steps s
+      (function_owned (IsNode x) core.structs (after.objects_of core.structs x) (after.is_main x) (length x.params) x
+      (every_of (IsNode x) (function_numbers x) (λ i n is. (i, is)))) e;
   fits = record {
     bytes = λ w. (function_fits w core.structs (after.objects_of core.structs x) (after.is_main x) x).bytes_in;
     helpers = λ w. (function_fits w core.structs (after.objects_of core.structs x) (after.is_main x) x).helped_in;
@@ -254,7 +268,12 @@ form_serves core h =
       same = same_states core (form_of core) form;
       functions = λ n x e. (function_of core.structs x, function_in core.structs core.functions n x e, serves_of core x);
       many = functions_many core.structs core.functions;
+      main = h.main;
       names = names_of core;
       globals = refl;
       once = λ rs. steps_once (form_of core) rs form.ordered;
+      short = λ lawful rs c r q made reach.
+          let apart = steps_once (form_of core) rs form.ordered r c q made reach in
+          let near = short (form_of core) rs (Calling (form_of core).main 0 [] []) c r q made reach apart in
+          omega (arith, near, program_cost core lawful);
     }

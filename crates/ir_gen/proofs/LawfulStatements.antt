@@ -191,10 +191,10 @@ mutual
 
 -- ---- parameters are scalars
 
-layout-Num : (known : List Layout) (t : IntType) → layout_in known (ty.Num t) ≡ integer t
+pub layout-Num : (known : List Layout) (t : IntType) → layout_in known (ty.Num t) ≡ integer t
 layout-Num known t = search (rules, type_lemmas)
 
-layout-Pointer : (known : List Layout) (to : Ty) (r : Bool) → layout_in known (ty.Pointer to r) ≡ scalar kind.Pointer 2 true
+pub layout-Pointer : (known : List Layout) (to : Ty) (r : Bool) → layout_in known (ty.Pointer to r) ≡ scalar kind.Pointer 2 true
 layout-Pointer known to r = search (rules, type_lemmas)
 
 kind-Num : (t : IntType) → kind_of (ty.Num t) ≡ kind_of_int t

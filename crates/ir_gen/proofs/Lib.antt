@@ -15,7 +15,11 @@ pub mod Rows
 pub mod StmtRows
 pub mod Depths
 pub mod StmtDepths
+pub mod Owning
 pub mod LawfulTrees
 pub mod LawfulStatements
 pub mod Naming
 pub mod StmtNaming
+pub mod Costing
+pub mod StmtCosting
+pub mod Shortness

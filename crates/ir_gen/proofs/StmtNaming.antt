@@ -141,66 +141,66 @@ module _ (ir : Ir) (fn : IrFunction) where
 -- ---- the equations of the fold
 
 module _ (S : List Struct) (O : List (List Slot)) where
-  body-Expr : (e : Expr) → b.stmt_kind S O (sk.Expr e) ≡ b.stmt_layer S O (StmtKind-F.Expr e)
+  pub body-Expr : (e : Expr) → b.stmt_kind S O (sk.Expr e) ≡ b.stmt_layer S O (StmtKind-F.Expr e)
   body-Expr e = search (rules, the_lemmas)
 
-  body-Block : (all : List Stmt) → b.stmt_kind S O (sk.Block all) ≡ b.stmt_layer S O (StmtKind-F.Block (map (b.stmt S O) all))
+  pub body-Block : (all : List Stmt) → b.stmt_kind S O (sk.Block all) ≡ b.stmt_layer S O (StmtKind-F.Block (map (b.stmt S O) all))
   body-Block all = search (rules, the_lemmas)
 
-  body-If : (test : Expr) (one : Stmt) → b.stmt_kind S O (sk.If test one None)
+  pub body-If : (test : Expr) (one : Stmt) → b.stmt_kind S O (sk.If test one None)
       ≡ b.stmt_layer S O (StmtKind-F.If test (b.stmt S O one) None)
   body-If test one = search (rules, the_lemmas)
 
-  body-IfElse : (test : Expr) (one other : Stmt) → b.stmt_kind S O (sk.If test one (Some other))
+  pub body-IfElse : (test : Expr) (one other : Stmt) → b.stmt_kind S O (sk.If test one (Some other))
       ≡ b.stmt_layer S O (StmtKind-F.If test (b.stmt S O one) (Some (b.stmt S O other)))
   body-IfElse test one other = search (rules, the_lemmas)
 
-  body-While : (test : Expr) (body : Stmt) → b.stmt_kind S O (sk.While test body)
+  pub body-While : (test : Expr) (body : Stmt) → b.stmt_kind S O (sk.While test body)
       ≡ b.stmt_layer S O (StmtKind-F.While test (b.stmt S O body))
   body-While test body = search (rules, the_lemmas)
 
-  body-Do : (body : Stmt) (test : Expr) → b.stmt_kind S O (sk.Do body test)
+  pub body-Do : (body : Stmt) (test : Expr) → b.stmt_kind S O (sk.Do body test)
       ≡ b.stmt_layer S O (StmtKind-F.Do (b.stmt S O body) test)
   body-Do body test = search (rules, the_lemmas)
 
-  body-For : (test part : Option Expr) (body : Stmt) → b.stmt_kind S O (sk.For None test part body)
+  pub body-For : (test part : Option Expr) (body : Stmt) → b.stmt_kind S O (sk.For None test part body)
       ≡ b.stmt_layer S O (StmtKind-F.For None test part (b.stmt S O body))
   body-For test part body = search (rules, the_lemmas)
 
-  body-ForFirst : (begin : Stmt) (test part : Option Expr) (body : Stmt)
+  pub body-ForFirst : (begin : Stmt) (test part : Option Expr) (body : Stmt)
       → b.stmt_kind S O (sk.For (Some begin) test part body)
       ≡ b.stmt_layer S O (StmtKind-F.For (Some (b.stmt S O begin)) test part (b.stmt S O body))
   body-ForFirst begin test part body = search (rules, the_lemmas)
 
-  body-Switch : (on : Expr) (groups : List Group) → b.stmt_kind S O (sk.Switch on groups)
+  pub body-Switch : (on : Expr) (groups : List Group) → b.stmt_kind S O (sk.Switch on groups)
       ≡ b.stmt_layer S O (StmtKind-F.Switch on (map (grouped S O) groups))
   body-Switch on groups = search (rules, the_lemmas)
 
-  body-group : (g : Group) → grouped S O g
+  pub body-group : (g : Group) → grouped S O g
       ≡ record { labels = (out-Group g).labels; body = b.bodies (map (b.stmt S O) (out-Group g).body) }
   body-group g = search (rules, group_lemmas)
 
-  body-Break : b.stmt_kind S O sk.Break ≡ b.stmt_layer S O StmtKind-F.Break
+  pub body-Break : b.stmt_kind S O sk.Break ≡ b.stmt_layer S O StmtKind-F.Break
   body-Break = search (rules, the_lemmas)
 
-  body-Continue : b.stmt_kind S O sk.Continue ≡ b.stmt_layer S O StmtKind-F.Continue
+  pub body-Continue : b.stmt_kind S O sk.Continue ≡ b.stmt_layer S O StmtKind-F.Continue
   body-Continue = search (rules, the_lemmas)
 
-  body-Return : (e : Option Expr) → b.stmt_kind S O (sk.Return e) ≡ b.stmt_layer S O (StmtKind-F.Return e)
+  pub body-Return : (e : Option Expr) → b.stmt_kind S O (sk.Return e) ≡ b.stmt_layer S O (StmtKind-F.Return e)
   body-Return e = search (rules, the_lemmas)
 
-  body-Stamped : (p : Place) (e : Expr) (node : ℕ) → b.stmt_kind S O (sk.Stamped p e) node ≡ b.no_body
+  pub body-Stamped : (p : Place) (e : Expr) (node : ℕ) → b.stmt_kind S O (sk.Stamped p e) node ≡ b.no_body
   body-Stamped p e node = search (rules, the_lemmas)
 
-  body-Timely : (p : Place) (limit : ℕ) (one : Stmt) (other : Option Stmt) (node : ℕ)
+  pub body-Timely : (p : Place) (limit : ℕ) (one : Stmt) (other : Option Stmt) (node : ℕ)
       → b.stmt_kind S O (sk.Timely p limit one other) node ≡ b.no_body
   body-Timely p limit one other node = search (rules, the_lemmas)
 
-  body-Expires : (names : List Place) (body caught : List Stmt) (node : ℕ)
+  pub body-Expires : (names : List Place) (body caught : List Stmt) (node : ℕ)
       → b.stmt_kind S O (sk.Expires names body caught) node ≡ b.no_body
   body-Expires names body caught node = search (rules, the_lemmas)
 
-  body-Declare : (n : ℕ) (init : List Init) → b.stmt_kind S O (sk.Declare n init)
+  pub body-Declare : (n : ℕ) (init : List Init) → b.stmt_kind S O (sk.Declare n init)
       ≡ b.stmt_layer S O (StmtKind-F.Declare n init)
   body-Declare n init = search (rules, the_lemmas)
 

@@ -36,13 +36,13 @@ bring_short (operand.Constant n) = by_bool (table.is_generated n)
 bring_short operand.Null = omega arith
 bring_short (operand.Scalar of offset k) = omega arith
 
-place_short : (x : Operand) → table.place x ≤ 8
+pub place_short : (x : Operand) → table.place x ≤ 8
 place_short operand.Temporary = omega arith
 place_short (operand.Constant n) = omega (arith, bring_short (operand.Constant n))
 place_short operand.Null = omega arith
 place_short (operand.Scalar of offset k) = omega arith
 
-narrow_short : (k : Kind) → table.narrow k ≤ 2
+pub narrow_short : (k : Kind) → table.narrow k ≤ 2
 narrow_short kind.Char = omega arith
 narrow_short kind.Int = omega arith
 narrow_short kind.UInt = omega arith

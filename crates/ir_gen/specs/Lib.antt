@@ -8,3 +8,4 @@ pub mod Sizes
 pub mod Ranges
 pub mod Plain
 pub mod Names
+pub mod Short

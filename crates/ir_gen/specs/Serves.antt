@@ -1,6 +1,6 @@
 -- A form serves a program: its run has the same states after the same marks and the same stops, it has the program's
 -- functions and variables, its steps are no longer than the cost table says, find room in the frame for what they leave and
--- name what is there, and between two marks it makes no step twice.
+-- name what is there, and between two marks it makes no step twice and not much in all.
 use Rattle.std.specs.Prelude.{◌≡◌, ℕ, List, ◌++◌, length, Some, slice_get}
 use Rattle.base16.specs.declared.reading.Reading.{Reading}
 use Rattle.core_tree.specs.declared.program.Core.{Core}
@@ -18,8 +18,9 @@ use Rattle.ir.specs.Machine as m
 use Rattle.ir.specs.Laws.{MakesStepsOnce}
 use Rattle.ir_gen.specs.Form.{locals_from, globals_from}
 use Rattle.ir_gen.specs.Sizes.{FitsRows}
-use Rattle.ir_gen.specs.Ranges.{FitsFrame, JumpsInside}
+use Rattle.ir_gen.specs.Ranges.{HaveNodes, FitsFrame, JumpsInside}
 use Rattle.ir_gen.specs.Names.{AllNamed}
+use Rattle.ir_gen.specs.Short.{StaysShort}
 
 -- no rule is broken
 abbrev pub IsDefined : CState → Type 0
@@ -43,6 +44,8 @@ pub record ServesFunction (core : Core) (x : Function) (fn : IrFunction) : Type 
   pub frame : fn.frame ≡ frame_bytes core.structs x
   pub params : fn.params ≡ length x.params
   pub locals : fn.locals ≡ locals_from core.structs x 0 (x.params ++ x.locals)
+  -- its steps belong to nodes of the function
+  pub nodes : HaveNodes x fn.steps
   -- the steps of each node fit its row of the cost table and use one helper routine at most
   pub fits : FitsRows x fn.steps
   -- its temporaries have room in the frame, and its jumps stay in it
@@ -55,6 +58,8 @@ pub record Serves (core : Core) (ir : Ir) : Type 0 where
   pub functions : (n : ℕ) (x : Function) → slice_get core.functions n ≡ Some x
       → (fn : IrFunction) × (slice_get ir.functions n ≡ Some fn) × ServesFunction core x fn
   pub many : length ir.functions ≡ length core.functions
+  -- the run begins with `main`
+  pub main : meaning.main_of core ≡ Some ir.main
   -- what the steps of a lawful program name is there
   pub names : LawfulCore core → (n : ℕ) (x : Function) (fn : IrFunction) → slice_get core.functions n ≡ Some x
       → slice_get ir.functions n ≡ Some fn → AllNamed ir fn
@@ -62,3 +67,5 @@ pub record Serves (core : Core) (ir : Ir) : Type 0 where
   pub globals : ir.globals ≡ globals_from core 0 core.globals
   -- between two marks no step is made twice
   pub once : (readings : List Reading) → MakesStepsOnce ir readings
+  -- and of a lawful program not much is done
+  pub short : LawfulCore core → (readings : List Reading) → StaysShort core ir readings
