@@ -106,7 +106,8 @@ sum_other w s (t ∷ ts) h = omega (arith, zeroed_other w s t h.0, sum_other w s
 abbrev Inside : (ℕ → ℕ → ℕ) → (ℕ → ℕ) → ℕ → Type 0
 Inside w L F = (f p : ℕ) → (w f p ≡ 0) ⊎ ((f < F) × (p < L f))
 
-removed : (w : ℕ → ℕ → ℕ) (L : ℕ → ℕ) (F : ℕ) (s : Site) → (w s.function s.position ≡ 0) ⊎ ((s.function < F) × (s.position < L s.function))
+removed : (w : ℕ → ℕ → ℕ) (L : ℕ → ℕ) (F : ℕ) (s : Site)
+    → (w s.function s.position ≡ 0) ⊎ ((s.function < F) × (s.position < L s.function))
     → w s.function s.position + all_rows (zeroed w s) L F ≤ all_rows w L F
 removed w L F s (inl none) =
     let less = row_more (λ f. row (zeroed w s f) (L f)) (λ f. row (w f) (L f)) F
