@@ -24,10 +24,10 @@ use Rattle.ideal430.specs.declared.service.Store.TheVariants.{Link}
 use Rattle.ideal430.specs.declared.state.IdealEnd.TheVariants.{Running, Ended}
 use Rattle.ideal430.proofs.Serving.{served-refused}
 use Rattle.cells430.specs.Cells.{Cell, Word, Byte, Cells, Live, OfOutput, OfData, OfFrame, OfOlder, Fits, Shape, Facts, dropped}
-use Rattle.cells430.specs.Stretch.{Course, outside, at, Ground, Comes}
+use Rattle.cells430.specs.Stretch.{reached_regs, behind, Course, outside, at, Ground, Comes}
 use Rattle.cells430.proofs.Cells.{facts_settle, facts_fewer, word_small}
 use Rattle.cells430.proofs.Calls.{of_word, words_set}
-use Rattle.cells430.proofs.Services.{reached, reached_regs, behind, popped_is, marked, ending, stays, refusal_is, calls_service, return_settled, facts_reached, facts_back, comes_marked, behind_words, small_return, facts_quiet, reached_words}
+use Rattle.cells430.proofs.Services.{reached, popped_is, marked, ending, stays, refusal_is, calls_service, return_settled, facts_reached, facts_back, comes_marked, behind_words, small_return, facts_quiet, reached_words}
 
 -- ---- cells of a frame that is left
 
@@ -235,3 +235,7 @@ module _ (c : ℕ → ℕ) (lo hi seg sp : ℕ) (ps : ℕ → ℕ) (g : Ground l
 
       unlinked_use : {A : Type 0} (y z : Bool) → (y && z) ≡ true → y ≡ false → A
       unlinked_use y z k n = never (sym n ∙ and-left y z k)
+
+-- no frame of segment 0 has a link word behind it
+pub no_link_below : (seg end : ℕ) → seg ≡ 0 → is_linked seg end ≡ false
+no_link_below seg end e = ap (λ (k : ℕ). is_linked k end) e

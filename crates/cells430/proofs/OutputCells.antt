@@ -18,9 +18,8 @@ use Rattle.ideal430.specs.Settled.{Bytes}
 use Rattle.ideal430.specs.Ideal.{Meter}
 use Rattle.ideal430.specs.declared.state.IdealEnd.TheVariants.{Running, Ended}
 use Rattle.cells430.specs.Cells.{Cell, Word, Byte, Cells, set_cell, Live, OfOutput, Fits, Shape, Facts, output_cell, with_outputs}
-use Rattle.cells430.specs.Stretch.{outside, at, Ground, Comes}
+use Rattle.cells430.specs.Stretch.{behind, reached_regs, outside, at, Ground, Comes}
 use Rattle.cells430.proofs.Cells.{set_cell-same, set_cell-other}
-use Rattle.cells430.proofs.Services.{behind, reached_regs}
 use Rattle.cells430.proofs.Outputs.{emits, emit_full}
 
 -- ---- a list with one item more

@@ -22,12 +22,12 @@ use Rattle.ideal430.specs.declared.service.Store.{Store}
 use Rattle.ideal430.specs.declared.state.IdealEnd.TheVariants.{Running, Ended}
 use Rattle.ideal430.proofs.Serving.{served-refused}
 use Rattle.cells430.specs.Cells.{Word, Cells, set_cell, Shape, Facts}
-use Rattle.cells430.specs.Stretch.{Course, outside, at, Ground, Comes}
+use Rattle.cells430.specs.Stretch.{reached_regs, behind, Course, outside, at, Ground, Comes}
 use Rattle.cells430.proofs.Settling.{settle-new}
 use Rattle.cells430.proofs.Cells.{set_cell-other, live_lower, live_next, live_below, facts_settle, facts_set}
 use Rattle.cells430.proofs.Lift.{first_byte, last_byte}
 use Rattle.cells430.proofs.Calls.{of_word}
-use Rattle.cells430.proofs.Services.{reached, reached_regs, behind, popped_is, marked, stays, refusal_is, calls_service, return_settled, facts_reached, facts_back, comes_marked, behind_words, small_return, reached_words}
+use Rattle.cells430.proofs.Services.{reached, popped_is, marked, stays, refusal_is, calls_service, return_settled, facts_reached, facts_back, comes_marked, behind_words, small_return, reached_words}
 
 fewer : (n : ℕ) → n < 256 → min n most_outputs ≡ n
 fewer n l = omega arith

@@ -24,12 +24,12 @@ use Rattle.ideal430.specs.declared.service.Store.{Store}
 use Rattle.ideal430.specs.declared.service.Store.TheVariants.{Link}
 use Rattle.ideal430.specs.declared.state.IdealEnd.TheVariants.{Running}
 use Rattle.cells430.specs.Cells.{Cell, Word, Byte, Cells, set_cell, Live, OfOutput, OfData, OfFrame, OfOlder, Fits, Shape, Facts, unlinked}
-use Rattle.cells430.specs.Stretch.{Course, outside, at, Ground, Comes}
+use Rattle.cells430.specs.Stretch.{reached_regs, behind, Course, outside, at, Ground, Comes}
 use Rattle.cells430.proofs.Settling.{in_segment, settle-fixed, settle-kept, settle-new}
 use Rattle.cells430.proofs.Cells.{shape_put, facts_more, facts_settle, facts_fewer, facts_set, word_small}
 use Rattle.cells430.proofs.Lift.{first_byte, last_byte}
 use Rattle.cells430.proofs.Calls.{of_word, words_set}
-use Rattle.cells430.proofs.Services.{reached, reached_regs, behind, popped_is, marked, refusal_is, return_settled, facts_reached, facts_back, comes_marked, behind_words, small_return}
+use Rattle.cells430.proofs.Services.{reached, popped_is, marked, refusal_is, return_settled, facts_reached, facts_back, comes_marked, behind_words, small_return}
 use Rattle.cells430.proofs.Frames.{enter_free, placed, enter_does, leave_free, leave_does}
 
 -- ---- the next segment works

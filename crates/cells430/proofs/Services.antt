@@ -37,7 +37,7 @@ use Rattle.ideal430.specs.declared.state.IdealEnd.{IdealEnd}
 use Rattle.ideal430.specs.declared.state.IdealEnd.TheVariants.{Running, Ended, NeedsReading}
 use Rattle.ideal430.proofs.Serving.{refusal_here, served-nothing, served-sensed, served-missing}
 use Rattle.cells430.specs.Cells.{Word, Byte, Cells, set_cell, Shape, Facts}
-use Rattle.cells430.specs.Stretch.{Course, outside, at, Ground, StepsTo, Comes}
+use Rattle.cells430.specs.Stretch.{reached_regs, behind, Course, outside, at, Ground, StepsTo, Comes}
 use Rattle.cells430.proofs.Settling.{in_segment, settle-new}
 use Rattle.cells430.proofs.Cells.{live_lower, live_next, live_below, second_byte, facts_more, facts_settle, facts_set, facts_set_byte, facts_below}
 use Rattle.cells430.proofs.Lift.{IsSettled, InSegment, next_is, own, here_now, first_byte, last_byte, only_byte}
@@ -45,20 +45,12 @@ use Rattle.cells430.proofs.Calls.{words_set, pushed_settled, pushed_within}
 
 -- ---- a service is reached
 
--- the registers as service n is reached
-abbrev pub reached_regs : (n sp : ℕ) → (ℕ → ℕ) → (ℕ → ℕ)
-reached_regs n sp r = set_reg (set_reg (set_reg r 0 (r 0 + 4)) 1 (sp - 2)) 0 (65280 + 2 * n)
-
--- and the machine: its return word stands below the stack pointer
+-- the machine as service n is reached: its return word stands below the stack pointer
 abbrev pub reached_state : (n sp : ℕ) (r m : ℕ → ℕ) → State
 reached_state n sp r m = record { regs = reached_regs n sp r; memory = put m (sp - 2) (r 0 + 4) }
 
 abbrev pub reached : (n seg sp : ℕ) (ps r m : ℕ → ℕ) → Bytes → Course → Meter → Ideal
 reached n seg sp ps r m st x q = moved (at seg ps r m st x q) (reached_state n sp r m)
-
--- the registers behind the call
-abbrev pub behind : (ℕ → ℕ) → (ℕ → ℕ)
-behind r = set_reg r 0 (r 0 + 4)
 
 pub popped_is : (n sp : ℕ) (r m : ℕ → ℕ) → r 1 ≡ sp → 2 ≤ sp
     → popped (reached_regs n sp r) (put m (sp - 2) (r 0 + 4)) ≡ behind r

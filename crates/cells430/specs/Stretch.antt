@@ -1,8 +1,9 @@
 -- Stretches of a run on the machine with unbroken power, each step of which is as it has to be, and the state that rules
 -- speak of.
-use Rattle.std.specs.Prelude.{◌≡◌, ◌≤◌, ◌<◌, ℕ, zero, suc, ◌+◌, ◌%◌, List, [], None}
+use Rattle.std.specs.Prelude.{◌≡◌, ◌≤◌, ◌<◌, ℕ, zero, suc, ◌+◌, ◌%◌, List, [], None, ◌-◌, ◌*◌}
 use Rattle.base16.specs.Board.{stack_end, segment_start, segment_top, code_start, code_end}
 use Rattle.base16.specs.declared.reading.Reading.{Reading}
+use Rattle.core430.specs.Registers.{set_reg}
 use Rattle.core430.specs.Uses.{AreWords, step_changes, IsWithin}
 use Rattle.ideal430.specs.Places.{is_in_segment}
 use Rattle.ideal430.specs.Service.{Block}
@@ -85,3 +86,13 @@ pub record Comes (c : ℕ → ℕ) (lo hi : ℕ) (t : Ideal) (status : IdealEnd)
 -- each of the first n steps of a run is as it has to be
 abbrev pub IsProper : ℕ → Ideal → Type 0
 IsProper n t = (k : ℕ) → k < n → StepsTo (run k t) (next (run k t))
+
+-- ---- calls of services
+
+-- the registers as service n is reached by a call
+abbrev pub reached_regs : (n sp : ℕ) → (ℕ → ℕ) → (ℕ → ℕ)
+reached_regs n sp r = set_reg (set_reg (set_reg r 0 (r 0 + 4)) 1 (sp - 2)) 0 (65280 + 2 * n)
+
+-- the registers behind the call
+abbrev pub behind : (ℕ → ℕ) → (ℕ → ℕ)
+behind r = set_reg r 0 (r 0 + 4)
