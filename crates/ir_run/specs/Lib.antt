@@ -1,0 +1,4 @@
+pub mod Ending
+pub mod Giving
+pub mod Going
+pub mod Starting
