@@ -23,3 +23,4 @@ pub mod StmtNaming
 pub mod Costing
 pub mod StmtCosting
 pub mod Shortness
+pub mod SmallProgram

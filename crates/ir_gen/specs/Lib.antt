@@ -9,3 +9,4 @@ pub mod Ranges
 pub mod Plain
 pub mod Names
 pub mod Short
+pub mod Example

@@ -1,5 +1,6 @@
 ghost use Rattle.core_tree.specs.declared.program.Core.{Core};
 ghost use Rattle.core_tree.specs.LawfulCore.{LawfulCore};
+ghost use Rattle.ir_gen.specs.Example.{small_program};
 ghost use Rattle.ir_gen.specs.Form.{IsBuilt, form_of};
 ghost use Rattle.ir_gen.specs.Plain.{IsPlain};
 ghost use Rattle.ir_gen.specs.Serves.{Serves};
@@ -19,4 +20,9 @@ pub fn lawful_programs_are_built()
 /// So the form of a lawful program without annotated statements serves it.
 pub fn forms_serve_lawful_programs()
     ensures { (core : Core) → LawfulCore core → IsPlain core → Serves core (form_of core) }
+{}
+
+/// A worked example: the small program is lawful and has no annotated statement, so its form serves it.
+pub fn a_small_program_has_a_form()
+    ensures { LawfulCore small_program × IsPlain small_program × Serves small_program (form_of small_program) }
 {}

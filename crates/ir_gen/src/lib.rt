@@ -4,5 +4,6 @@
 mod laws;
 
 pub use laws::{
-    forms_serve_lawful_programs, forms_serve_their_programs, lawful_programs_are_built,
+    a_small_program_has_a_form, forms_serve_lawful_programs, forms_serve_their_programs,
+    lawful_programs_are_built,
 };
