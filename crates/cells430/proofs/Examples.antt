@@ -152,7 +152,7 @@ module _ (c : ℕ → ℕ) (lo hi seg sp : ℕ) (ps : ℕ → ℕ) (g : Ground l
       sets c lo hi seg (sp - 2) ps g1 Q 5 f1 s1 _ m1 st1 (outside marks left) q1 Mov false (Immediate 8)
       (ToReg 15) _ _ _ h1 w1 body.0 given to_register refl tt tt refl refl (λ st2 q2 h2 w2.
       then_comes c lo hi 4 _ seg ps _ (outside (marks + 1) left) f1 Q
-      (enters c lo hi seg (sp - 2) ps g1 f1 s1 _ m1 st2 marks left q2 8 h2 w2 body.1.0 refl refl refl (omega arith)
+      (enters c lo hi seg (sp - 2) ps g1 f1 s1 _ m1 st2 (outside marks left) q2 8 h2 w2 body.1.0 refl refl refl (omega arith)
       (omega arith) (omega arith) (omega arith)) (λ m3 st3 q3 h3 w3.
       sets c lo hi seg (sp - 2 - 8) ps g2 Q 3 f2 s2 _ m3 st3 (outside (marks + 1) left) q3 Mov false (Immediate 7)
       (ToReg 12) _ _ _ (framed_facts (sp - 2 - 8) 8 one_word f1 one_word_layout c lo hi m3 st3 h3) w3 body.1.1.0 given
@@ -163,7 +163,7 @@ module _ (c : ℕ → ℕ) (lo hi seg sp : ℕ) (ps : ℕ → ℕ) (g : Ground l
       sets c lo hi seg (sp - 2 - 8) ps g2 Q 1 f3 s3 _ m5 st5 (outside (marks + 1) left) q5 Mov false (Immediate 8)
       (ToReg 15) _ _ _ h5 w5 body.1.1.1.1.0 given to_register refl tt tt refl refl (λ st6 q6 h6 w6.
       then_comes c lo hi 0 _ seg ps _ (outside (marks + 1 + 1) left) (dropped seg (sp - 2 + 2) f3) Q
-      (leaves c lo hi seg (sp - 2 - 8) ps g2 f3 s3 _ m5 st6 (marks + 1) left q6 8 (sp - 2)
+      (leaves c lo hi seg (sp - 2 - 8) ps g2 f3 s3 _ m5 st6 (outside (marks + 1) left) q6 8 (sp - 2)
       (r 0 + 4) false h6 w6 body.1.1.1.1.1.0 refl refl refl (omega arith) (omega arith) (omega arith) (omega arith)
       (not_top seg sp under room) (not_outermost seg sp under) ret) (λ m7 st7 q7 h7 w7.
       more _ m7 st7 q7 refl up refl (facts_return seg sp ps f f3 (omega arith) top last s

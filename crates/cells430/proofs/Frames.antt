@@ -1,11 +1,10 @@
 -- Frames: enter in the working segment, leave in it, the end of main, and no place for a frame.
-use Rattle.std.proofs.Common.{◌≡◌, ◌≢◌, ℕ, ◌+◌, ◌-◌, ◌%◌, ◌<◌, ◌≤◌, refl, sym, ap, ◌∙◌, subst, arith, Bool, true, false, not, ◌&&◌, ◌||◌, inl, inr, List, [], ◌∷◌, Some, None, if◌then◌else◌}
+use Rattle.std.proofs.Common.{◌≡◌, ◌≢◌, ℕ, ◌+◌, ◌-◌, ◌%◌, ◌<◌, ◌≤◌, refl, sym, ap, ◌∙◌, subst, arith, Bool, true, false, not, ◌&&◌, ◌||◌, inl, inr, [], ◌∷◌, Some, None, if◌then◌else◌}
 use Rattle.std.proofs.lemmas.Bool.{ne_eqb, eq-eqb, le-leb, lt-leb}
 use Rattle.std.proofs.lemmas.Bool.Decides.{nat_tests}
 use Rattle.std.specs.Prelude.{nat_eq, nat_lt, nat_le}
 use Rattle.base16.specs.Board.{segment_start, segment_top, segment_count}
 use Rattle.base16.specs.Memory.{put}
-use Rattle.base16.specs.declared.reading.Reading.{Reading}
 use Rattle.base16.specs.declared.end.EndKind.TheVariants.{StackFull}
 use Rattle.isa430.specs.declared.instr.OneOp.TheVariants.{Call}
 use Rattle.isa430.specs.declared.instr.Src.TheVariants.{Immediate}
@@ -15,7 +14,7 @@ use Rattle.core430.specs.Uses.{AreWords, IsWithin}
 use Rattle.core430.proofs.Truths.{and-both, or-true, and-left}
 use Rattle.run430.specs.Code.{Here}
 use Rattle.ideal430.specs.Places.{is_in_word}
-use Rattle.ideal430.specs.Service.{is_frame, is_linked, is_bad_link, is_link, wild_where, own_wild, has_place, mark, link_address, enter_effect, returned, leave_effect}
+use Rattle.ideal430.specs.Service.{Block, is_frame, is_linked, is_bad_link, is_link, wild_where, own_wild, has_place, mark, link_address, enter_effect, returned, leave_effect}
 use Rattle.ideal430.specs.Settled.{Bytes, stores_bytes, settled_after}
 use Rattle.ideal430.specs.Ideal.{Ideal, Meter, settled_old}
 use Rattle.ideal430.specs.Uses.{uses_at}
@@ -24,10 +23,10 @@ use Rattle.ideal430.specs.declared.service.Store.TheVariants.{Link}
 use Rattle.ideal430.specs.declared.state.IdealEnd.TheVariants.{Running, Ended}
 use Rattle.ideal430.proofs.Serving.{served-refused}
 use Rattle.cells430.specs.Cells.{Cell, Word, Byte, Cells, Live, OfOutput, OfData, OfFrame, OfOlder, Fits, Shape, Facts, dropped}
-use Rattle.cells430.specs.Stretch.{reached_regs, behind, Course, outside, at, Ground, Comes}
+use Rattle.cells430.specs.Stretch.{with_mark, reached_regs, behind, Course, at, Ground, Comes}
 use Rattle.cells430.proofs.Cells.{facts_settle, facts_fewer, word_small}
 use Rattle.cells430.proofs.Calls.{of_word, words_set}
-use Rattle.cells430.proofs.Services.{reached, popped_is, marked, ending, stays, refusal_is, calls_service, return_settled, facts_reached, facts_back, comes_marked, behind_words, small_return, facts_quiet, reached_words}
+use Rattle.cells430.proofs.Services.{quiet_course, reached, popped_is, marked, ending, stays, refusal_is, calls_service, return_settled, facts_reached, facts_back, comes_marked, behind_words, small_return, facts_quiet, reached_words}
 
 -- ---- cells of a frame that is left
 
@@ -79,9 +78,10 @@ good_frame bytes even four most = and-both (eq-eqb (bytes % 2) 0 even) (and-both
 
 module _ (c : ℕ → ℕ) (lo hi seg sp : ℕ) (ps : ℕ → ℕ) (g : Ground lo hi seg sp) (f : Cells) (s : Shape seg sp ps f) where
   -- enter is not Wild
-  pub enter_free : (r m : ℕ → ℕ) (bytes : ℕ) → r 15 ≡ bytes → bytes % 2 ≡ 0 → 4 ≤ bytes → bytes ≤ 240 → sp < segment_top seg
-      → own_wild Enter (reached_regs 1 sp r) (put m (sp - 2) (r 0 + 4)) seg None ≡ None
-  enter_free r m bytes is even four most below =
+  pub enter_free : (r m : ℕ → ℕ) (block : Block) (bytes : ℕ) → r 15 ≡ bytes → bytes % 2 ≡ 0 → 4 ≤ bytes → bytes ≤ 240
+      → sp < segment_top seg
+      → own_wild Enter (reached_regs 1 sp r) (put m (sp - 2) (r 0 + 4)) seg block ≡ None
+  enter_free r m block bytes is even four most below =
       let base = g.base in
       let apart : sp - 2 + 2 ≢ segment_top seg = omega arith in
       ap (λ (k : ℕ). wild_where (not (is_frame k)) (sp - 2) (wild_where (nat_eq (sp - 2 + 2) (segment_top seg)) (sp - 2) None))
@@ -107,21 +107,21 @@ module _ (c : ℕ → ℕ) (lo hi seg sp : ℕ) (ps : ℕ → ℕ) (g : Ground l
       (set_reg (behind r) 1 (link_address seg - bytes)) (seg + 1) (Link (link_address seg) sp ∷ [])) k
 
   -- a frame of so many bytes below the return word, in this segment
-  pub enters : (r m : ℕ → ℕ) (st : Bytes) (marks : ℕ) (left : List Reading) (q : Meter) (bytes : ℕ) → Facts c lo hi f m st
+  pub enters : (r m : ℕ → ℕ) (st : Bytes) (x : Course) (q : Meter) (bytes : ℕ) → Facts c lo hi f m st
       → AreWords r → Here c lo hi (r 0) (One Call false (Immediate 65282)) → r 1 ≡ sp → r 15 ≡ bytes → bytes % 2 ≡ 0
       → 4 ≤ bytes → bytes ≤ 240
       → segment_start seg + bytes + 4 ≤ sp → sp < segment_top seg
-      → Comes c lo hi (at seg ps r m st (outside marks left) q) Running seg ps (set_reg (behind r) 1 (sp - bytes))
-      (outside (marks + 1) left) f
-  enters r m st marks left q bytes h wr here e is even four most fits below =
+      → Comes c lo hi (at seg ps r m st x q) Running seg ps (set_reg (behind r) 1 (sp - bytes))
+      (with_mark x) f
+  enters r m st x q bytes h wr here e is even four most fits below =
       let base = g.base in let last = g.last in
-      let x : Course = outside marks left in
       let r2 : ℕ → ℕ = set_reg (behind r) 1 (sp - bytes) in
       let small = small_return c lo hi seg sp ps g f s r 65282 here in
       let place : has_place seg sp bytes ≡ true = le-leb (segment_start seg + bytes + 4) sp fits in
-      comes_marked c lo hi seg sp ps g Enter 1 f f r m st marks left q seg ps r2 [] false false (stays seg sp ps) refl
+      comes_marked c lo hi seg sp ps g Enter 1 f f r m st x q seg ps r2 [] false false (with_mark x) (stays seg sp ps)
+      (quiet_course 1 seg sp ps r m st x q seg r2 false false) refl
       (omega arith) h here e
-      (refusal_is c lo hi seg sp ps g Enter 1 r m st x q None e (enter_free r m bytes is even four most below)
+      (refusal_is c lo hi seg sp ps g Enter 1 r m st x q None e (enter_free r m x.block bytes is even four most below)
       (ap (λ (b : Bool). if b || not (nat_eq seg (segment_count - 1)) then None else Some StackFull)
       (placed r bytes true e is place))) refl
       (ap (λ (k : ℕ → ℕ). enter_effect k seg) (popped_is 1 sp r m e (omega arith)) ∙ enter_does r m bytes true e is place)
@@ -130,14 +130,12 @@ module _ (c : ℕ → ℕ) (lo hi seg sp : ℕ) (ps : ℕ → ℕ) (g : Ground l
       (words_set (behind r) 1 (sp - bytes) (omega arith) (behind_words c lo hi seg sp ps g f s r 65282 here wr))
 
   -- no segment is left for a frame
-  pub enter_full : (r m : ℕ → ℕ) (st : Bytes) (marks : ℕ) (left : List Reading) (q : Meter) (bytes : ℕ) → Facts c lo hi f m st
+  pub enter_full : (r m : ℕ → ℕ) (st : Bytes) (x : Course) (q : Meter) (bytes : ℕ) → Facts c lo hi f m st
       → AreWords r → Here c lo hi (r 0) (One Call false (Immediate 65282)) → r 1 ≡ sp → r 15 ≡ bytes → bytes % 2 ≡ 0
       → 4 ≤ bytes → bytes ≤ 240
       → sp < segment_start seg + bytes + 4 → sp < segment_top seg → seg ≡ 31
-      → Comes c lo hi (at seg ps r m st (outside marks left) q) (Ended StackFull) seg ps (reached_regs 1 sp r)
-      (outside marks left) f
-  enter_full r m st marks left q bytes h wr here e is even four most full below top =
-      let x : Course = outside marks left in
+      → Comes c lo hi (at seg ps r m st x q) (Ended StackFull) seg ps (reached_regs 1 sp r) x f
+  enter_full r m st x q bytes h wr here e is even four most full below top =
       let t : Ideal = reached 1 seg sp ps r m st x q in
       let place : has_place seg sp bytes ≡ false = lt-leb (segment_start seg + bytes + 4) sp full in
       record {
@@ -147,7 +145,7 @@ module _ (c : ℕ → ℕ) (lo hi seg sp : ℕ) (ps : ℕ → ℕ) (g : Ground l
         step = calls_service c lo hi seg sp ps g 1 f r m st x q _ (omega arith) h here e
             (return_settled c lo hi seg sp ps g 1 f r m st x q h here e)
             (served-refused 1 t Enter StackFull refl (refusal_is c lo hi seg sp ps g Enter 1 r m st x q (Some StackFull) e
-            (enter_free r m bytes is even four most below)
+            (enter_free r m x.block bytes is even four most below)
             (ap (λ (b : Bool). if b || not (nat_eq seg (segment_count - 1)) then None else Some StackFull)
             (placed r bytes false e is place)
             ∙ ap (λ (b : Bool). if not b then None else Some StackFull) (eq-eqb seg 31 top))));
@@ -156,10 +154,11 @@ module _ (c : ℕ → ℕ) (lo hi seg sp : ℕ) (ps : ℕ → ℕ) (g : Ground l
       }
 
   -- leave is not Wild
-  pub leave_free : (r m : ℕ → ℕ) (bytes end : ℕ) → r 15 ≡ bytes → bytes % 2 ≡ 0 → 4 ≤ bytes → bytes ≤ 240 → sp + bytes ≡ end
+  pub leave_free : (r m : ℕ → ℕ) (block : Block) (bytes end : ℕ) → r 15 ≡ bytes → bytes % 2 ≡ 0 → 4 ≤ bytes → bytes ≤ 240
+      → sp + bytes ≡ end
       → end + 2 ≤ segment_top seg → is_bad_link (put m (sp - 2) (r 0 + 4)) seg end ≡ false
-      → own_wild Leave (reached_regs 2 sp r) (put m (sp - 2) (r 0 + 4)) seg None ≡ None
-  leave_free r m bytes end is even four most ends below link =
+      → own_wild Leave (reached_regs 2 sp r) (put m (sp - 2) (r 0 + 4)) seg block ≡ None
+  leave_free r m block bytes end is even four most ends below link =
       let base = g.base in
       let m1 : ℕ → ℕ = put m (sp - 2) (r 0 + 4) in
       let at_end : sp - 2 + 2 + r 15 ≡ end = omega (arith, is, ends) in
@@ -186,16 +185,15 @@ module _ (c : ℕ → ℕ) (lo hi seg sp : ℕ) (ps : ℕ → ℕ) (g : Ground l
 
   -- The frame is left, and the function's return word goes to PC. The outermost main is the one whose return word stands
   -- at the top of segment 0; leaving it ends the run.
-  pub leaves : (r m : ℕ → ℕ) (st : Bytes) (marks : ℕ) (left : List Reading) (q : Meter) (bytes end ret : ℕ) (outermost : Bool)
+  pub leaves : (r m : ℕ → ℕ) (st : Bytes) (x : Course) (q : Meter) (bytes end ret : ℕ) (outermost : Bool)
       → Facts c lo hi f m st → AreWords r → Here c lo hi (r 0) (One Call false (Immediate 65284)) → r 1 ≡ sp → r 15 ≡ bytes
       → bytes % 2 ≡ 0 → 4 ≤ bytes → bytes ≤ 240
       → sp + bytes ≡ end → end + 2 ≤ segment_top seg → is_linked seg end ≡ false
       → (nat_eq seg 0 && nat_eq end 0x20FE) ≡ outermost → f end ≡ Some (Word (Some ret))
-      → Comes c lo hi (at seg ps r m st (outside marks left) q) (ending outermost) seg ps
-      (set_reg (set_reg (behind r) 0 ret) 1 (end + 2)) (outside (marks + 1) left) (dropped seg (end + 2) f)
-  leaves r m st marks left q bytes end ret outermost h wr here e is even four most ends below no_link outer cell =
+      → Comes c lo hi (at seg ps r m st x q) (ending outermost) seg ps
+      (set_reg (set_reg (behind r) 0 ret) 1 (end + 2)) (with_mark x) (dropped seg (end + 2) f)
+  leaves r m st x q bytes end ret outermost h wr here e is even four most ends below no_link outer cell =
       let base = g.base in let last = g.last in
-      let x : Course = outside marks left in
       let t : Ideal = reached 2 seg sp ps r m st x q in
       let m1 : ℕ → ℕ = put m (sp - 2) (r 0 + 4) in
       let r2 : ℕ → ℕ = set_reg (set_reg (behind r) 0 ret) 1 (end + 2) in
@@ -211,10 +209,10 @@ module _ (c : ℕ → ℕ) (lo hi seg sp : ℕ) (ps : ℕ → ℕ) (g : Ground l
         | inr y ↦ unlinked_use (is_linked seg end) (is_in_word (m1 end) b)
             (subst (λ (a : ℕ). (is_linked seg a && is_in_word (m1 a) b) ≡ true) at_end y) no_link
       ] in
-      comes_marked c lo hi seg sp ps g Leave 2 f (dropped seg (end + 2) f) r m st marks left q seg ps r2 [] false outermost
-      (stays seg sp ps) refl (omega arith) h here e
+      comes_marked c lo hi seg sp ps g Leave 2 f (dropped seg (end + 2) f) r m st x q seg ps r2 [] false outermost
+      (with_mark x) (stays seg sp ps) (quiet_course 2 seg sp ps r m st x q seg r2 false outermost) refl (omega arith) h here e
       (refusal_is c lo hi seg sp ps g Leave 2 r m st x q None e
-      (leave_free r m bytes end is even four most ends below bad) refl) refl
+      (leave_free r m x.block bytes end is even four most ends below bad) refl) refl
       (ap (λ (k : ℕ → ℕ). leave_effect k m1 seg (k 1 + k 15)) (popped_is 2 sp r m e (omega arith))
       ∙ leave_does r m1 bytes end false e is ends no_link
       ∙ ap (λ (w : ℕ). record (mark (set_reg (set_reg (behind r) 0 w) 1 (end + 2)) seg [])

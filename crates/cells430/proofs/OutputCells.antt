@@ -18,7 +18,7 @@ use Rattle.ideal430.specs.Settled.{Bytes}
 use Rattle.ideal430.specs.Ideal.{Meter}
 use Rattle.ideal430.specs.declared.state.IdealEnd.TheVariants.{Running, Ended}
 use Rattle.cells430.specs.Cells.{Cell, Word, Byte, Cells, set_cell, Live, OfOutput, Fits, Shape, Facts, output_cell, with_outputs}
-use Rattle.cells430.specs.Stretch.{behind, reached_regs, outside, at, Ground, Comes}
+use Rattle.cells430.specs.Stretch.{Course, behind, reached_regs, outside, at, Ground, Comes}
 use Rattle.cells430.proofs.Cells.{set_cell-same, set_cell-other}
 use Rattle.cells430.proofs.Outputs.{emits, emit_full}
 
@@ -228,11 +228,11 @@ module _ (c : ℕ → ℕ) (lo hi seg sp : ℕ) (ps : ℕ → ℕ) (g : Ground l
       (place_cell os f room))
 
   -- with 256 outputs there the run ends
-  pub emit_ends : (r m : ℕ → ℕ) (st : Bytes) (marks : ℕ) (left : List Reading) (q : Meter)
+  pub emit_ends : (r m : ℕ → ℕ) (st : Bytes) (x : Course) (q : Meter)
       → Facts c lo hi (with_outputs os f) m st → AreWords r → Here c lo hi (r 0) (One Call false (Immediate 65298)) → r 1 ≡ sp
       → length os ≡ 256
-      → Comes c lo hi (at seg ps r m st (outside marks left) q) (Ended OutputFull) seg ps (reached_regs 9 sp r)
-      (outside marks left) (with_outputs os f)
-  emit_ends r m st marks left q h wr here e full =
-      emit_full c lo hi seg sp ps g (with_outputs os f) s r m st marks left q h wr here e
+      → Comes c lo hi (at seg ps r m st x q) (Ended OutputFull) seg ps (reached_regs 9 sp r)
+      x (with_outputs os f)
+  emit_ends r m st x q h wr here e full =
+      emit_full c lo hi seg sp ps g (with_outputs os f) s r m st x q h wr here e
       (length_cell os f ∙ ap (λ (k : ℕ). Some (Word (Some k))) full)

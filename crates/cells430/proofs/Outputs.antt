@@ -13,7 +13,7 @@ use Rattle.core430.specs.Uses.{AreWords, IsWithin}
 use Rattle.core430.proofs.Truths.{or-true, or-left, or-right}
 use Rattle.run430.specs.Code.{Here}
 use Rattle.ideal430.specs.Places.{is_in_word}
-use Rattle.ideal430.specs.Service.{outputs_of, mark, emit_stores}
+use Rattle.ideal430.specs.Service.{full_block, outputs_of, mark, emit_stores}
 use Rattle.ideal430.specs.Settled.{Bytes, stores_bytes, settled_after}
 use Rattle.ideal430.specs.Ideal.{Ideal, Meter, settled_old}
 use Rattle.ideal430.specs.Uses.{uses_at}
@@ -88,8 +88,8 @@ module _ (c : ℕ → ℕ) (lo hi seg sp : ℕ) (ps : ℕ → ℕ) (g : Ground l
       (wr 13) back in
       let apart : outputs_start + 1 ≢ a = omega (arith, fit.0) in
       comes_marked c lo hi seg sp ps g Emit 9 f (set_cell (set_cell f a (Word (Some (r 13)))) outputs_start
-      (Word (Some (n + 1)))) r m st marks left q seg ps (behind r) stores false false (stays seg sp ps) refl
-      (omega arith) h here e
+      (Word (Some (n + 1)))) r m st x q seg ps (behind r) stores false false (outside (marks + 1) left)
+      (stays seg sp ps) refl refl (omega arith) h here e
       (refusal_is c lo hi seg sp ps g Emit 9 r m st x q None e refl
       (ap (λ (k : ℕ). if nat_lt k most_outputs then None else Some OutputFull) count
       ∙ ap (λ (b : Bool). if b then None else Some OutputFull) (lt-ltb n most_outputs room))) refl
@@ -104,12 +104,11 @@ module _ (c : ℕ → ℕ) (lo hi seg sp : ℕ) (ps : ℕ → ℕ) (g : Ground l
       (behind_words c lo hi seg sp ps g f s r 65298 here wr)
 
   -- and with 256 outputs there the run ends
-  pub emit_full : (r m : ℕ → ℕ) (st : Bytes) (marks : ℕ) (left : List Reading) (q : Meter) → Facts c lo hi f m st → AreWords r
+  pub emit_full : (r m : ℕ → ℕ) (st : Bytes) (x : Course) (q : Meter) → Facts c lo hi f m st → AreWords r
       → Here c lo hi (r 0) (One Call false (Immediate 65298)) → r 1 ≡ sp → f outputs_start ≡ Some (Word (Some 256))
-      → Comes c lo hi (at seg ps r m st (outside marks left) q) (Ended OutputFull) seg ps (reached_regs 9 sp r)
-      (outside marks left) f
-  emit_full r m st marks left q h wr here e length =
-      let x : Course = outside marks left in
+      → Comes c lo hi (at seg ps r m st x q) (Ended OutputFull) seg ps (reached_regs 9 sp r)
+      x f
+  emit_full r m st x q h wr here e length =
       let t : Ideal = reached 9 seg sp ps r m st x q in
       let m1 : ℕ → ℕ = put m (sp - 2) (r 0 + 4) in
       let count : outputs_of m1 ≡ 256 = ap (λ (k : ℕ). min k most_outputs) (length_now r m st x q 256 h here length) in
@@ -120,7 +119,7 @@ module _ (c : ℕ → ℕ) (lo hi seg sp : ℕ) (ps : ℕ → ℕ) (g : Ground l
         step = calls_service c lo hi seg sp ps g 9 f r m st x q _ (omega arith) h here e
             (emit_used r m st x q 256 h here e length)
             (served-refused 9 t Emit OutputFull refl (refusal_is c lo hi seg sp ps g Emit 9 r m st x q (Some OutputFull) e refl
-            (ap (λ (k : ℕ). if nat_lt k most_outputs then None else Some OutputFull) count)));
+            (ap (λ (k : ℕ). if nat_lt k most_outputs then full_block x.block 2 else Some OutputFull) count)));
         facts = facts_reached c lo hi seg sp ps g f s 9 r m st x q (small_return c lo hi seg sp ps g f s r 65298 here) h;
         words = reached_words c lo hi seg sp ps g f s r 9 65298 here e (omega arith) wr;
       }

@@ -24,12 +24,12 @@ use Rattle.ideal430.specs.declared.service.Store.{Store}
 use Rattle.ideal430.specs.declared.service.Store.TheVariants.{Link}
 use Rattle.ideal430.specs.declared.state.IdealEnd.TheVariants.{Running}
 use Rattle.cells430.specs.Cells.{Cell, Word, Byte, Cells, set_cell, Live, OfOutput, OfData, OfFrame, OfOlder, Fits, Shape, Facts, unlinked}
-use Rattle.cells430.specs.Stretch.{reached_regs, behind, Course, outside, at, Ground, Comes}
+use Rattle.cells430.specs.Stretch.{with_mark, reached_regs, behind, Course, outside, at, Ground, Comes}
 use Rattle.cells430.proofs.Settling.{in_segment, settle-fixed, settle-kept, settle-new}
 use Rattle.cells430.proofs.Cells.{shape_put, facts_more, facts_settle, facts_fewer, facts_set, word_small}
 use Rattle.cells430.proofs.Lift.{first_byte, last_byte}
 use Rattle.cells430.proofs.Calls.{of_word, words_set}
-use Rattle.cells430.proofs.Services.{reached, popped_is, marked, refusal_is, return_settled, facts_reached, facts_back, comes_marked, behind_words, small_return}
+use Rattle.cells430.proofs.Services.{quiet_course, reached, popped_is, marked, refusal_is, return_settled, facts_reached, facts_back, comes_marked, behind_words, small_return}
 use Rattle.cells430.proofs.Frames.{enter_free, placed, enter_does, leave_free, leave_does}
 
 -- ---- the next segment works
@@ -120,10 +120,10 @@ module _ (c : ℕ → ℕ) (lo hi seg sp : ℕ) (ps : ℕ → ℕ) (g : Ground l
       let moves : (if nat_lt seg (seg + 1) then set_reg ps seg (sp - 2 + 2) else ps) ≡ set_reg ps seg sp =
       ap (λ (b : Bool). if b then set_reg ps seg (sp - 2 + 2) else ps) (lt-ltb seg (seg + 1) (omega arith))
       ∙ ap (set_reg ps seg) up in
-      comes_marked c lo hi seg sp ps g Enter 1 f (set_cell f (link_address seg) (Word (Some sp))) r m st marks left q (seg + 1)
-      (set_reg ps seg sp) r2 stores false false moves refl (omega arith) h here e
+      comes_marked c lo hi seg sp ps g Enter 1 f (set_cell f (link_address seg) (Word (Some sp))) r m st x q (seg + 1)
+      (set_reg ps seg sp) r2 stores false false (outside (marks + 1) left) moves refl refl (omega arith) h here e
       (refusal_is c lo hi seg sp ps g Enter 1 r m st x q None e
-      (enter_free c lo hi seg sp ps g f s r m bytes is even four most below)
+      (enter_free c lo hi seg sp ps g f s r m None bytes is even four most below)
       (ap (λ (b : Bool). if b || not (nat_eq seg (segment_count - 1)) then None else Some StackFull)
       (placed c lo hi seg sp ps g f s r bytes false e is place)
       ∙ ap (λ (b : Bool). if not b then None else Some StackFull) (ne_eqb seg 31 apart))) refl
@@ -207,16 +207,15 @@ facts_unlinked c lo hi s1 sp sp2 ps f w m st top s h =
 module _ (c : ℕ → ℕ) (lo hi s1 sp : ℕ) (ps : ℕ → ℕ) (g : Ground lo hi (s1 + 1) sp) (f : Cells)
     (s : Shape (s1 + 1) sp ps f) where
   -- the frame that ends below the link word is left, and with it its segment: the link word says where the return word is
-  pub leaves_link : (r m : ℕ → ℕ) (st : Bytes) (marks : ℕ) (left : List Reading) (q : Meter) (bytes end p ret : ℕ)
+  pub leaves_link : (r m : ℕ → ℕ) (st : Bytes) (x : Course) (q : Meter) (bytes end p ret : ℕ)
       → Facts c lo hi f m st → AreWords r → Here c lo hi (r 0) (One Call false (Immediate 65284)) → r 1 ≡ sp → r 15 ≡ bytes
       → bytes % 2 ≡ 0 → 4 ≤ bytes → bytes ≤ 240
       → sp + bytes ≡ end → end + 2 ≡ segment_top (s1 + 1) → f end ≡ Some (Word (Some p)) → segment_start s1 ≤ p
       → p < segment_top s1 → f p ≡ Some (Word (Some ret))
-      → Comes c lo hi (at (s1 + 1) ps r m st (outside marks left) q) Running s1 ps
-      (set_reg (set_reg (behind r) 0 ret) 1 (p + 2)) (outside (marks + 1) left) (unlinked s1 (p + 2) f)
-  leaves_link r m st marks left q bytes end p ret h wr here e is even four most ends top_end link_cell low_p high_p ret_cell =
+      → Comes c lo hi (at (s1 + 1) ps r m st x q) Running s1 ps
+      (set_reg (set_reg (behind r) 0 ret) 1 (p + 2)) (with_mark x) (unlinked s1 (p + 2) f)
+  leaves_link r m st x q bytes end p ret h wr here e is even four most ends top_end link_cell low_p high_p ret_cell =
       let base = g.base in let last = g.last in
-      let x : Course = outside marks left in
       let t : Ideal = reached 2 (s1 + 1) sp ps r m st x q in
       let m1 : ℕ → ℕ = put m (sp - 2) (r 0 + 4) in
       let r2 : ℕ → ℕ = set_reg (set_reg (behind r) 0 ret) 1 (p + 2) in
@@ -246,10 +245,10 @@ module _ (c : ℕ → ℕ) (lo hi s1 sp : ℕ) (ps : ℕ → ℕ) (g : Ground lo
             (subst (λ (a : ℕ). is_in_word a b ≡ true) (ap m1 at_end ∙ link_there.0)
             (and-right (is_linked (s1 + 1) (sp - 2 + 2 + r 15)) _ y))
       ] in
-      comes_marked c lo hi (s1 + 1) sp ps g Leave 2 f (unlinked s1 (p + 2) f) r m st marks left q s1 ps r2 [] false false moves
-      refl (omega arith) h here e
+      comes_marked c lo hi (s1 + 1) sp ps g Leave 2 f (unlinked s1 (p + 2) f) r m st x q s1 ps r2 [] false false
+      (with_mark x) moves (quiet_course 2 (s1 + 1) sp ps r m st x q s1 r2 false false) refl (omega arith) h here e
       (refusal_is c lo hi (s1 + 1) sp ps g Leave 2 r m st x q None e
-      (leave_free c lo hi (s1 + 1) sp ps g f s r m bytes end is even four most ends (omega arith) bad) refl) refl
+      (leave_free c lo hi (s1 + 1) sp ps g f s r m x.block bytes end is even four most ends (omega arith) bad) refl) refl
       (ap (λ (k : ℕ → ℕ). leave_effect k m1 (s1 + 1) (k 1 + k 15)) (popped_is 2 sp r m e (omega arith))
       ∙ leave_does c lo hi (s1 + 1) sp ps g f s r m1 bytes end true e is ends linked
       ∙ ap (λ (k : ℕ). mark (returned (behind r) m1 k) (s1 + 1 - 1) []) link_there.0

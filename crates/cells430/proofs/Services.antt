@@ -1,7 +1,8 @@
--- Calls of services, each as one step, where no block is open.
-use Rattle.std.proofs.Common.{◌≡◌, ◌≢◌, ℕ, ◌+◌, ◌-◌, ◌*◌, ◌%◌, ◌<◌, ◌≤◌, refl, sym, ap, ◌∙◌, subst, arith, Bool, true, false, not, ◌&&◌, ◌⊎◌, inl, inr, List, [], ◌∷◌, Option, Some, None, if◌then◌else◌}
+-- Calls of services, each as one step. Those that store ask that no block is open.
+use Rattle.std.proofs.Common.{◌≡◌, ◌≢◌, ℕ, ◌+◌, ◌-◌, ◌*◌, ◌%◌, ◌<◌, ◌≤◌, refl, sym, ap, ◌∙◌, subst, arith, Bool, true, false, not, ◌&&◌, ◌⊎◌, inl, inr, List, [], ◌∷◌, ◌++◌, drop, Option, Some, None, if◌then◌else◌}
 use Rattle.std.proofs.Math.Path.{fun_ext}
 use Rattle.std.proofs.lemmas.Bool.{ne_eqb, eq-eqb, cases_eq}
+use Rattle.std.proofs.lemmas.List.{append-nil}
 use Rattle.std.proofs.lemmas.Bool.Decides.{nat_tests}
 use Rattle.std.specs.Prelude.{nat_lt}
 use Rattle.base16.specs.Board.{service_entry}
@@ -23,9 +24,9 @@ use Rattle.run430.specs.Code.{Here}
 use Rattle.run430.proofs.Words.{Agrees-self}
 use Rattle.run430.proofs.Stack.{into_service}
 use Rattle.ideal430.specs.Places.{is_even, may_store, is_in_word}
-use Rattle.ideal430.specs.Service.{Block, service_at, has_stack, wild_where, own_wild, own_full, popped, refusal_or, refusal_of, Effect, mark, own_ask, stores_in}
+use Rattle.ideal430.specs.Service.{Block, service_at, has_stack, wild_where, own_wild, own_full, popped, refusal_or, refusal_of, Effect, mark, own_ask, stores_in, is_open, Stays, block_by, block_after}
 use Rattle.ideal430.specs.Settled.{Bytes, no_bytes, stores_bytes, settled_after}
-use Rattle.ideal430.specs.Ideal.{Ideal, Meter, stopped, moved, settled_popped, settled_old, did, served, free}
+use Rattle.ideal430.specs.Ideal.{Ideal, Meter, stopped, moved, settled_popped, settled_old, did, served, free, with_left, earlier_after}
 use Rattle.ideal430.specs.Uses.{UsesAfter, UsesIf, uses_at}
 use Rattle.ideal430.specs.At.{effect_here, sensed_value}
 use Rattle.ideal430.specs.declared.service.Ask.TheVariants.{Nothing, Sensor}
@@ -37,7 +38,7 @@ use Rattle.ideal430.specs.declared.state.IdealEnd.{IdealEnd}
 use Rattle.ideal430.specs.declared.state.IdealEnd.TheVariants.{Running, Ended, NeedsReading}
 use Rattle.ideal430.proofs.Serving.{refusal_here, served-nothing, served-sensed, served-missing}
 use Rattle.cells430.specs.Cells.{Word, Byte, Cells, set_cell, Shape, Facts}
-use Rattle.cells430.specs.Stretch.{reached_regs, behind, Course, outside, at, Ground, StepsTo, Comes}
+use Rattle.cells430.specs.Stretch.{with_mark, reached_regs, behind, Course, outside, at, Ground, StepsTo, Comes}
 use Rattle.cells430.proofs.Settling.{in_segment, settle-new}
 use Rattle.cells430.proofs.Cells.{live_lower, live_next, live_below, second_byte, facts_more, facts_settle, facts_set, facts_set_byte, facts_below}
 use Rattle.cells430.proofs.Lift.{IsSettled, InSegment, next_is, own, here_now, first_byte, last_byte, only_byte}
@@ -96,6 +97,38 @@ not_less n = grind (arith, nat_tests)
 -- the last stack pointers of older segments, after a service that leaves this segment working
 pub stays : (seg sp : ℕ) (ps : ℕ → ℕ) → (if nat_lt seg seg then set_reg ps seg (sp - 2 + 2) else ps) ≡ ps
 stays seg sp ps = ap (λ (b : Bool). if b then set_reg ps seg (sp - 2 + 2) else ps) (not_less seg)
+
+-- the course after a mark
+abbrev pub course_after : Ideal → Effect → Course
+course_after t e = record {
+  marks = t.marks + 1;
+  left = t.left;
+  block = block_after e t.core.memory t.block;
+  earlier =
+      earlier_after t e;
+}
+
+same_block : (m : ℕ → ℕ) (o : Block) → block_by Stays true [] m o ≡ o
+same_block m None = refl
+same_block m (Some words) = ap Some (append-nil words)
+
+same_earlier : (b : Bool) (l : List Bytes) → (if b then l ++ [] else l) ≡ l
+same_earlier true l = append-nil l
+same_earlier false l = refl
+
+-- a mark that stores nothing leaves the block as it was
+pub quiet_course : (n seg sp : ℕ) (ps r m : ℕ → ℕ) (st : Bytes) (x : Course) (q : Meter) (g2 : ℕ) (r2 : ℕ → ℕ)
+    (asks ends : Bool) → course_after (reached n seg sp ps r m st x q) (marked r2 g2 [] asks ends) ≡ with_mark x
+quiet_course n seg sp ps r m st x q g2 r2 asks ends =
+    ap (λ (o : Block). record {
+      marks = x.marks + 1;
+      left = x.left;
+      block = o;
+      earlier =
+          if is_open x.block && true then x.earlier ++ [] else x.earlier;
+    }) (same_block (put m (sp - 2) (r 0 + 4)) x.block)
+    ∙ ap (λ (l : List Bytes). record { marks = x.marks + 1; left = x.left; block = x.block; earlier = l })
+    (same_earlier (is_open x.block && true) x.earlier)
 
 module _ (c : ℕ → ℕ) (lo hi seg sp : ℕ) (ps : ℕ → ℕ) (g : Ground lo hi seg sp) where
   stack_there : has_stack seg (sp - 2) ≡ true
@@ -160,26 +193,28 @@ module _ (c : ℕ → ℕ) (lo hi seg sp : ℕ) (ps : ℕ → ℕ) (g : Ground l
         (λ b k. up b (half.lasting b k)) half
 
   -- what a mark comes to
-  pub did_is : (n : ℕ) (r m : ℕ → ℕ) (st : Bytes) (marks : ℕ) (left : List Reading) (q : Meter) (g2 : ℕ) (ps2 r2 : ℕ → ℕ)
-      (stores : List Store) (asks ends : Bool) →
-      let t : Ideal = reached n seg sp ps r m st (outside marks left) q in
+  pub did_is : (n : ℕ) (r m : ℕ → ℕ) (st : Bytes) (x : Course) (q : Meter) (g2 : ℕ) (ps2 r2 : ℕ → ℕ)
+      (stores : List Store) (asks ends : Bool) (x2 : Course) →
+      let t : Ideal = reached n seg sp ps r m st x q in
       let e : Effect = marked r2 g2 stores asks ends in
-      (if nat_lt seg g2 then set_reg ps seg (sp - 2 + 2) else ps) ≡ ps2
+      (if nat_lt seg g2 then set_reg ps seg (sp - 2 + 2) else ps) ≡ ps2 → course_after t e ≡ x2
       → did t e ≡ stopped (at g2 ps2 r2 (stores_in (put m (sp - 2) (r 0 + 4)) stores)
-      (settled_after g2 (r2 1) ps2 (stores_bytes stores) (settled_old t e)) (outside (marks + 1) left) (did t e).meter)
+      (settled_after g2 (r2 1) ps2 (stores_bytes stores) (settled_old t e)) x2 (did t e).meter)
       (ending ends)
-  did_is n r m st marks left q g2 ps2 r2 stores asks ends moves =
-      let t : Ideal = reached n seg sp ps r m st (outside marks left) q in
+  did_is n r m st x q g2 ps2 r2 stores asks ends x2 moves course =
+      let t : Ideal = reached n seg sp ps r m st x q in
       let e : Effect = marked r2 g2 stores asks ends in
       ap (λ (p : ℕ → ℕ). stopped (at g2 p r2 (stores_in (put m (sp - 2) (r 0 + 4)) stores)
-      (settled_after g2 (r2 1) p (stores_bytes stores) (settled_old t e)) (outside (marks + 1) left) (did t e).meter)
+      (settled_after g2 (r2 1) p (stores_bytes stores) (settled_old t e)) (course_after t e) (did t e).meter)
       (ending ends)) moves
+      ∙ ap (λ (k : Course). stopped (at g2 ps2 r2 (stores_in (put m (sp - 2) (r 0 + 4)) stores)
+      (settled_after g2 (r2 1) ps2 (stores_bytes stores) (settled_old t e)) k (did t e).meter) (ending ends)) course
 
   -- a service that asks nothing and is a mark
-  pub comes_marked : (service : Service) (n : ℕ) (f f2 : Cells) (r m : ℕ → ℕ) (st : Bytes) (marks : ℕ) (left : List Reading)
-      (q : Meter) (g2 : ℕ) (ps2 r2 : ℕ → ℕ) (stores : List Store) (asks ends : Bool) →
-      let t : Ideal = reached n seg sp ps r m st (outside marks left) q in
-      (if nat_lt seg g2 then set_reg ps seg (sp - 2 + 2) else ps) ≡ ps2
+  pub comes_marked : (service : Service) (n : ℕ) (f f2 : Cells) (r m : ℕ → ℕ) (st : Bytes) (x : Course)
+      (q : Meter) (g2 : ℕ) (ps2 r2 : ℕ → ℕ) (stores : List Store) (asks ends : Bool) (x2 : Course) →
+      let t : Ideal = reached n seg sp ps r m st x q in
+      (if nat_lt seg g2 then set_reg ps seg (sp - 2 + 2) else ps) ≡ ps2 → course_after t (marked r2 g2 stores asks ends) ≡ x2
       → service_at n ≡ Some service → n < 15 → Facts c lo hi f m st
       → Here c lo hi (r 0) (One Call false (Immediate (65280 + 2 * n))) → r 1 ≡ sp
       → refusal_here service t ≡ None → own_ask service (reached_regs n sp r) ≡ Nothing
@@ -187,19 +222,19 @@ module _ (c : ℕ → ℕ) (lo hi seg sp : ℕ) (ps : ℕ → ℕ) (g : Ground l
       → IsWithin (uses_at n (reached_regs n sp r) (put m (sp - 2) (r 0 + 4)) seg) t.settled
       → Facts c lo hi f2 (stores_in (put m (sp - 2) (r 0 + 4)) stores)
       (settled_after g2 (r2 1) ps2 (stores_bytes stores) (settled_old t (marked r2 g2 stores asks ends))) → AreWords r2
-      → Comes c lo hi (at seg ps r m st (outside marks left) q) (ending ends) g2 ps2 r2 (outside (marks + 1) left) f2
-  comes_marked service n f f2 r m st marks left q g2 ps2 r2 stores asks ends moves at_n few h here e free_of quiet effect used
+      → Comes c lo hi (at seg ps r m st x q) (ending ends) g2 ps2 r2 x2 f2
+  comes_marked service n f f2 r m st x q g2 ps2 r2 stores asks ends x2 moves course at_n few h here e free_of quiet effect used
       facts wide =
-      let t : Ideal = reached n seg sp ps r m st (outside marks left) q in
+      let t : Ideal = reached n seg sp ps r m st x q in
       let ef : Effect = marked r2 g2 stores asks ends in
       let u = did t ef in
       record {
         memory = stores_in (put m (sp - 2) (r 0 + 4)) stores;
         settled = settled_after g2 (r2 1) ps2 (stores_bytes stores) (settled_old t ef);
         meter = u.meter;
-        step = calls_service n f r m st (outside marks left) q _ few h here e used
+        step = calls_service n f r m st x q _ few h here e used
             (served-nothing n t service at_n free_of quiet ∙ ap (did t) effect
-            ∙ did_is n r m st marks left q g2 ps2 r2 stores asks ends moves);
+            ∙ did_is n r m st x q g2 ps2 r2 stores asks ends x2 moves course);
         facts = facts;
         words = wide;
       }
@@ -232,31 +267,33 @@ module _ (c : ℕ → ℕ) (lo hi seg sp : ℕ) (ps : ℕ → ℕ) (g : Ground l
         (words_set (behind r) 1 (sp - 2) (omega arith) (behind_words r k here h))
 
     -- turn of a loop
-    pub turns : (r m : ℕ → ℕ) (st : Bytes) (marks : ℕ) (left : List Reading) (q : Meter) → Facts c lo hi f m st → AreWords r
+    pub turns : (r m : ℕ → ℕ) (st : Bytes) (x : Course) (q : Meter) → Facts c lo hi f m st → AreWords r
         → Here c lo hi (r 0) (One Call false (Immediate 65286)) → r 1 ≡ sp
-        → Comes c lo hi (at seg ps r m st (outside marks left) q) Running seg ps (behind r) (outside (marks + 1) left) f
-    turns r m st marks left q h wr here e =
+        → Comes c lo hi (at seg ps r m st x q) Running seg ps (behind r) (with_mark x) f
+    turns r m st x q h wr here e =
         let base = g.base in
-        comes_marked Turn 3 f f r m st marks left q seg ps (behind r) [] false false (stays seg sp ps) refl
+        comes_marked Turn 3 f f r m st x q seg ps (behind r) [] false false (with_mark x) (stays seg sp ps)
+        (quiet_course 3 seg sp ps r m st x q seg (behind r) false false) refl
         (omega arith) h here e
-        (refusal_is Turn 3 r m st (outside marks left) q None e refl refl) refl
+        (refusal_is Turn 3 r m st x q None e refl refl) refl
         (ap (λ (k : ℕ → ℕ). mark k seg []) (popped_is 3 sp r m e (omega arith)))
-        (return_settled 3 f r m st (outside marks left) q h here e)
-        (facts_quiet 3 r m st (outside marks left) q (behind r) false false (omega (arith, e)) (small_return r 65286 here) h)
+        (return_settled 3 f r m st x q h here e)
+        (facts_quiet 3 r m st x q (behind r) false false (omega (arith, e)) (small_return r 65286 here) h)
         (behind_words r 65286 here wr)
 
     -- a checkpoint is asked for
-    pub checkpoints : (r m : ℕ → ℕ) (st : Bytes) (marks : ℕ) (left : List Reading) (q : Meter) → Facts c lo hi f m st
+    pub checkpoints : (r m : ℕ → ℕ) (st : Bytes) (x : Course) (q : Meter) → Facts c lo hi f m st
         → AreWords r → Here c lo hi (r 0) (One Call false (Immediate 65308)) → r 1 ≡ sp
-        → Comes c lo hi (at seg ps r m st (outside marks left) q) Running seg ps (behind r) (outside (marks + 1) left) f
-    checkpoints r m st marks left q h wr here e =
+        → Comes c lo hi (at seg ps r m st x q) Running seg ps (behind r) (with_mark x) f
+    checkpoints r m st x q h wr here e =
         let base = g.base in
-        comes_marked Checkpoint 14 f f r m st marks left q seg ps (behind r) [] true false (stays seg sp ps) refl
+        comes_marked Checkpoint 14 f f r m st x q seg ps (behind r) [] true false (with_mark x) (stays seg sp ps)
+        (quiet_course 14 seg sp ps r m st x q seg (behind r) true false) refl
         (omega arith) h here e
-        (refusal_is Checkpoint 14 r m st (outside marks left) q None e refl refl) refl
+        (refusal_is Checkpoint 14 r m st x q None e refl refl) refl
         (ap (λ (k : ℕ → ℕ). record (mark k seg []) { asks = true }) (popped_is 14 sp r m e (omega arith)))
-        (return_settled 14 f r m st (outside marks left) q h here e)
-        (facts_quiet 14 r m st (outside marks left) q (behind r) true false (omega (arith, e)) (small_return r 65308 here) h)
+        (return_settled 14 f r m st x q h here e)
+        (facts_quiet 14 r m st x q (behind r) true false (omega (arith, e)) (small_return r 65308 here) h)
         (behind_words r 65308 here wr)
 
     good_word : (a : ℕ) → a % 2 ≡ 0 → may_store seg a ≡ true → (is_even a && may_store seg a) ≡ true
@@ -286,8 +323,8 @@ module _ (c : ℕ → ℕ) (lo hi seg sp : ℕ) (ps : ℕ → ℕ) (g : Ground l
         let back = facts_settle c lo hi f seg sp ps s (r 1) w m1 before down
         (facts_back f s 4 r m st (outside marks left) q (marked (behind r) seg stores false false) refl
         (small_return r 65288 here) h) in
-        comes_marked StoreWord 4 f (set_cell f a (Word (Some (r 13)))) r m st marks left q seg ps (behind r) stores false false
-        (stays seg sp ps) refl (omega arith) h here e
+        comes_marked StoreWord 4 f (set_cell f a (Word (Some (r 13)))) r m st (outside marks left) q seg ps (behind r) stores
+        false false (outside (marks + 1) left) (stays seg sp ps) refl refl (omega arith) h here e
         (refusal_is StoreWord 4 r m st (outside marks left) q None e
         (ap (λ (k : ℕ). wild_where (not (is_even k && may_store seg k)) k None) to
         ∙ ap (λ (b : Bool). wild_where (not b) a None) (good_word a even may)) refl) refl
@@ -322,8 +359,8 @@ module _ (c : ℕ → ℕ) (lo hi seg sp : ℕ) (ps : ℕ → ℕ) (g : Ground l
         let back = facts_settle c lo hi f seg sp ps s (r 1) w m1 before down
         (facts_back f s 5 r m st (outside marks left) q (marked (behind r) seg stores false false) refl
         (small_return r 65290 here) h) in
-        comes_marked StoreByte 5 f (set_cell f a (Byte (Some (r 13 % 256)))) r m st marks left q seg ps
-        (behind r) stores false false (stays seg sp ps) refl (omega arith) h here e
+        comes_marked StoreByte 5 f (set_cell f a (Byte (Some (r 13 % 256)))) r m st (outside marks left) q seg ps
+        (behind r) stores false false (outside (marks + 1) left) (stays seg sp ps) refl refl (omega arith) h here e
         (refusal_is StoreByte 5 r m st (outside marks left) q None e
         (ap (λ (k : ℕ). wild_where (not (may_store seg k)) k None) to ∙ ap (λ (b : Bool). wild_where (not b) a None) may)
         refl) refl
@@ -345,16 +382,17 @@ module _ (c : ℕ → ℕ) (lo hi seg sp : ℕ) (ps : ℕ → ℕ) (g : Ground l
         ∙ ap (λ (b : Bool). wild_where b (service_entry 8) None) least
 
     -- R12 becomes the next reading, which is of the channel in R15
-    pub senses : (r m : ℕ → ℕ) (st : Bytes) (marks channel value : ℕ) (rest : List Reading) (q : Meter) → Facts c lo hi f m st
+    pub senses : (r m : ℕ → ℕ) (st : Bytes) (x : Course) (channel value : ℕ) (rest : List Reading) (q : Meter)
+        → Facts c lo hi f m st
         → AreWords r → Here c lo hi (r 0) (One Call false (Immediate 65296)) → r 1 ≡ sp → r 15 ≡ channel → channel < 16
-        → value < 65536
-        → Comes c lo hi (at seg ps r m st (outside marks (reading.Sense channel value ∷ rest)) q) Running seg ps
-        (set_reg (behind r) 12 value) (outside (marks + 1) rest) f
-    senses r m st marks channel value rest q h wr here e is few small =
+        → value < 65536 → x.left ≡ reading.Sense channel value ∷ rest
+        → Comes c lo hi (at seg ps r m st x q) Running seg ps (set_reg (behind r) 12 value)
+        (record (with_mark x) { left = rest }) f
+    senses r m st x channel value rest q h wr here e is few small next =
         let base = g.base in
-        let x : Course = outside marks (reading.Sense channel value ∷ rest) in
         let t : Ideal = reached 8 seg sp ps r m st x q in
-        let t2 : Ideal = reached 8 seg sp ps r m st (outside marks rest) q in
+        let x2 : Course = record x { left = rest } in
+        let t2 : Ideal = reached 8 seg sp ps r m st x2 q in
         let r2 : ℕ → ℕ = set_reg (behind r) 12 value in
         let ef : Effect = marked r2 seg [] false false in
         let u = did t2 ef in
@@ -365,29 +403,30 @@ module _ (c : ℕ → ℕ) (lo hi seg sp : ℕ) (ps : ℕ → ℕ) (g : Ground l
           step = calls_service 8 f r m st x q _ (omega arith) h here e (return_settled 8 f r m st x q h here e)
               (served-sensed 8 t Sense channel value refl (refusal_is Sense 8 r m st x q None e
               (few_channels r channel is few) refl) (ap Sensor is)
-              (ap (λ (b : Bool). if b then Some value else None) (eq-eqb channel channel refl))
+              (ap (sensed_value channel) next ∙ ap (λ (b : Bool). if b then Some value else None) (eq-eqb channel channel refl))
+              ∙ ap (λ (l : List Reading). did (with_left t (drop 1 l)) (effect_here Sense value t)) next
               ∙ ap (λ (k : ℕ → ℕ). did t2 (mark (set_reg k 12 value) seg [])) (popped_is 8 sp r m e (omega arith))
-              ∙ did_is 8 r m st marks rest q seg ps r2 [] false false (stays seg sp ps));
-          facts = facts_quiet 8 r m st (outside marks rest) q r2 false false (omega (arith, e)) (small_return r 65296 here) h;
+              ∙ did_is 8 r m st x2 q seg ps r2 [] false false (with_mark x2) (stays seg sp ps)
+              (quiet_course 8 seg sp ps r m st x2 q seg r2 false false));
+          facts = facts_quiet 8 r m st x2 q r2 false false (omega (arith, e)) (small_return r 65296 here) h;
           words = words_set (behind r) 12 value small (behind_words r 65296 here wr);
         }
 
     -- the reading is missing, or it is of another channel
-    pub sense_lacks : (r m : ℕ → ℕ) (st : Bytes) (marks channel : ℕ) (left : List Reading) (q : Meter) → Facts c lo hi f m st
+    pub sense_lacks : (r m : ℕ → ℕ) (st : Bytes) (x : Course) (channel : ℕ) (q : Meter) → Facts c lo hi f m st
         → AreWords r → Here c lo hi (r 0) (One Call false (Immediate 65296)) → r 1 ≡ sp → r 15 ≡ channel → channel < 16
-        → sensed_value channel left ≡ None
-        → Comes c lo hi (at seg ps r m st (outside marks left) q) NeedsReading seg ps (reached_regs 8 sp r)
-        (outside marks left) f
-    sense_lacks r m st marks channel left q h wr here e is few lacks =
-        let t : Ideal = reached 8 seg sp ps r m st (outside marks left) q in
+        → sensed_value channel x.left ≡ None
+        → Comes c lo hi (at seg ps r m st x q) NeedsReading seg ps (reached_regs 8 sp r) x f
+    sense_lacks r m st x channel q h wr here e is few lacks =
+        let t : Ideal = reached 8 seg sp ps r m st x q in
         record {
           memory = put m (sp - 2) (r 0 + 4);
           settled = t.settled;
           meter = t.meter;
-          step = calls_service 8 f r m st (outside marks left) q _ (omega arith) h here e
-              (return_settled 8 f r m st (outside marks left) q h here e)
-              (served-missing 8 t Sense channel refl (refusal_is Sense 8 r m st (outside marks left) q None e
+          step = calls_service 8 f r m st x q _ (omega arith) h here e
+              (return_settled 8 f r m st x q h here e)
+              (served-missing 8 t Sense channel refl (refusal_is Sense 8 r m st x q None e
               (few_channels r channel is few) refl) (ap Sensor is) lacks);
-          facts = facts_reached f s 8 r m st (outside marks left) q (small_return r 65296 here) h;
+          facts = facts_reached f s 8 r m st x q (small_return r 65296 here) h;
           words = reached_words r 8 65296 here e (omega arith) wr;
         }

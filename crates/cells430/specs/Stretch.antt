@@ -27,6 +27,10 @@ pub record Course : Type 0 where
 abbrev pub outside : (marks : ℕ) → List Reading → Course
 outside marks left = record { marks = marks; left = left; block = None; earlier = [] }
 
+-- one mark more
+abbrev pub with_mark : Course → Course
+with_mark course = record course { marks = course.marks + 1 }
+
 -- the machine in this segment, with these last stack pointers of the older ones, these registers and this memory
 abbrev pub at : (segment : ℕ) (pointers r m : ℕ → ℕ) → Bytes → Course → Meter → Ideal
 at segment pointers r m settled course meter = record {
