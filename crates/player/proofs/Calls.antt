@@ -2,6 +2,7 @@
 use Rattle.std.proofs.Common.{◌≡◌, ℕ, ◌+◌, ◌≤◌, sym, ap, ◌∙◌, arith, Option, List, ◌++◌, length, drop, length-append}
 use Rattle.std.proofs.lemmas.List.{drop_at}
 use Rattle.base16.specs.Memory.{words_of}
+use Rattle.base16.specs.declared.image.Scalar.{Scalar}
 use Rattle.board_map.specs.declared.work.Work.{Work}
 use Rattle.fram.specs.Contents.{Contents}
 use Rattle.ideal430.specs.Service.{taken_of}
@@ -32,14 +33,14 @@ given-one n registers registers2 m m2 work work2 w w2 answer before s e =
     let one : length taken ≤ 1 = one-taken (ask_found n registers m work) s.value in
     omega arith
 
-pub recorded : (n here : ℕ) (registers registers2 : List ℕ) (work work2 : Work) (records records1 records2 : List Record)
+pub recorded : (scalars : List Scalar) (n here : ℕ) (registers registers2 : List ℕ) (work work2 : Work) (records records1 records2 : List Record)
     (f f2 : Contents) (w w2 : WorldState) (instrs instrs2 before : ℕ) (result : Turn) (answer : Served) (c : Option Committed)
     → Serves n registers (words_of f.words) work w answer registers2 (words_of f2.words) work2 w2 → turn_of answer ≡ result
     → committed_in answer ≡ c → before ≡ length w.readings → records1 ≡ records ++ read_records (drop before w2.readings)
-    → records2 ≡ records1 ++ commit_records c registers2 work2 here → instrs2 ≡ instrs_after c instrs here
+    → records2 ≡ records1 ++ commit_records scalars c registers2 work2 here (words_of f2.words) → instrs2 ≡ instrs_after c instrs here
     → length registers2 ≡ 16 → f2.poked ≡ f.poked
-    → IsServed n here registers work (now records f w) instrs result registers2 work2 (now records2 f2 w2) instrs2
-recorded n here registers registers2 work work2 records records1 records2 f f2 w w2 instrs instrs2 before result answer c s t
+    → IsServed scalars n here registers work (now records f w) instrs result registers2 work2 (now records2 f2 w2) instrs2
+recorded scalars n here registers registers2 work work2 records records1 records2 f f2 w w2 instrs instrs2 before result answer c s t
     ec eb r1 r2 i size poked =
     let taken = taken_of (ask_found n registers (words_of f.words) work) s.value in
     let given : drop before w2.readings ≡ taken = ap (drop before) s.passes.readings ∙ drop_at w.readings taken before (sym eb) in
@@ -47,8 +48,8 @@ recorded n here registers registers2 work work2 records records1 records2 f f2 w
       answer = answer;
       result_is = sym t;
       serves = s;
-      records_are = r2 ∙ ap (λ x. x ++ commit_records c registers2 work2 here) (r1 ∙ ap (λ x. records ++ read_records x) given)
-          ∙ ap (λ x. (records ++ read_records taken) ++ commit_records x registers2 work2 here) (sym ec);
+      records_are = r2 ∙ ap (λ x. x ++ commit_records scalars c registers2 work2 here (words_of f2.words)) (r1 ∙ ap (λ x. records ++ read_records x) given)
+          ∙ ap (λ x. (records ++ read_records taken) ++ commit_records scalars x registers2 work2 here (words_of f2.words)) (sym ec);
       instrs_are = i ∙ ap (λ x. instrs_after x instrs here) (sym ec);
       sixteen = size;
       poked = poked;

@@ -1,13 +1,15 @@
 -- From power cycle to power cycle: where a playing begins, power comes, power fails, the run ends.
-use Rattle.std.proofs.Common.{◌≡◌, ℕ, suc, ◌+◌, ◌*◌, ◌≤◌, false, ◌⊎◌, inl, inr, refl, sym, ap, ◌∙◌, subst, arith, List, [], ◌∷◌, ◌++◌, length, sum, append_assoc, append-nil, length-append, if◌then◌else◌}
+use Rattle.std.proofs.Common.{◌≡◌, ℕ, suc, ◌+◌, ◌*◌, ◌≤◌, Bool, true, false, ◌⊎◌, inl, inr, refl, sym, ap, ◌∙◌, subst, arith, List, [], ◌∷◌, ◌++◌, length, sum, append_assoc, append-nil, length-append, if◌then◌else◌}
 use Rattle.std.proofs.lemmas.List.{drop_all}
 use Rattle.std.proofs.lemmas.List.Sums.{fold-append}
 use Rattle.base16.specs.Memory.{words_of}
 use Rattle.base16.specs.declared.end.EndKind.{EndKind}
-use Rattle.base16.specs.declared.end.EndKind.TheVariants.{Power}
+use Rattle.base16.specs.declared.end.EndKind.TheVariants.{Done, Power, StackFull, BlockFull, OutputFull, Wild}
 use Rattle.base16.specs.declared.reading.Reading.{Reading}
 use Rattle.board_map.specs.Recovered.{recovered}
 use Rattle.board_map.specs.WellFormed.{IsWellFormed}
+use Rattle.display.specs.Display.{ShowsSame}
+use Rattle.display.proofs.Same.{ShowsSame-itself}
 use Rattle.fram.specs.Contents.{Contents}
 use Rattle.ideal430.specs.Agreement.{Claim}
 use Rattle.ideal430.specs.Ideal.{Ideal, with_left}
@@ -16,11 +18,11 @@ use Rattle.world.specs.History.{Story, beginning, after, story}
 use Rattle.world.specs.World.{WorldState, Wakes}
 use Rattle.world.specs.declared.history.Record.{Record}
 use Rattle.world.specs.declared.history.Record.TheVariants.{On, Off, End}
-use Rattle.player.specs.Form.{Phase, Between, Within, IsWhole, IsOver, phase_after, phase_of, is_on, cycles_in, reads_of}
-use Rattle.player.specs.Playing.{Origin, kept_in, IsShut, first_point, added_in, story_in, HasRecovered, IsRunning, IsAny, AreRight, left_of, Powers, now, Keeps}
+use Rattle.player.specs.Form.{Phase, Between, Within, IsWhole, IsOver, is_power, phase_after, phase_of, is_on, cycles_in, reads_of}
+use Rattle.player.specs.Playing.{Origin, kept_in, shown_in, IsShut, first_point, added_in, story_in, HasRecovered, IsRunning, IsAny, IsBehind, AreRight, left_of, Powers, IsSpent, now, Keeps}
 use Rattle.player.specs.Turning.{IsIdle, IsBetweenCycles, IsInCycle, RestsWithin, RestsBetween, OnGoing, Begins, IsCut, Ends}
 use Rattle.player.proofs.Records.{cycles-more, story-more, on-phase, off-phase, end-phase}
-use Rattle.player.proofs.Keeping.{keeps-push, keeps-any}
+use Rattle.player.proofs.Keeping.{keeps-push, keeps-as}
 use Rattle.player.proofs.Moves.{agrees-left}
 
 -- ---- where a playing begins
@@ -63,6 +65,8 @@ begins o formed shut =
         commits = subst (AreRight o (beginning (first_point o))) (sym none) tt;
         number = ap (λ (s : Story). s.last.number) told;
         marks = ap (λ (s : Story). s.last.marks) told;
+        shown = subst (λ (s : Story). ShowsSame s.last.display (shown_in o.scalars o.fram)) (sym told)
+            (ShowsSame-itself (shown_in o.scalars o.fram));
         uncommitted = λ n. refl;
         machine = λ start s. subst (λ (v : Story). Claim start v.last.readings v.last.instrs
             (HasRecovered IsRunning o.world.period (words_of o.fram.words))) (sym told)
@@ -178,34 +182,58 @@ cut o instrs records records2 f w c e =
     } in
     subst (λ x. RestsBetween o instrs (now x f w)) (sym e) done
 
+pub not-both : (b : Bool) → b ≡ false → b ≡ true → ⊥
+not-both true h k = cc
+not-both false h k = cc
+
+behind-own : (kind : EndKind) → is_power kind ≡ false → (status : IdealEnd) → IsAny status → IsBehind kind status
+behind-own Done own status h = h
+behind-own Power own status h = absurd (not-both true own refl)
+behind-own StackFull own status h = h
+behind-own BlockFull own status h = h
+behind-own OutputFull own status h = h
+behind-own (Wild address) own status h = h
+
 pub over : (o : Origin) (kind : EndKind) (records records2 : List Record) (f : Contents) (w : WorldState)
-    → Ends o kind (now records f w) → records2 ≡ records ++ End kind ∷ [] → Keeps o (IsOver kind) IsAny (now records2 f w)
+    → Ends o kind (now records f w) → records2 ≡ records ++ End kind ∷ [] → Keeps o (IsOver kind) (IsBehind kind) (now records2 f w)
 over o kind records records2 f w h e =
-    subst (λ x. Keeps o (IsOver kind) IsAny (now x f w)) (sym e)
-    (keeps-push o (IsInCycle o records) (IsOver kind) IsAny records (End kind) f w w tt h.cause
+    subst (λ x. Keeps o (IsOver kind) (IsBehind kind) (now x f w)) (sym e)
+    (keeps-push o (IsInCycle o records) (IsOver kind) (IsBehind kind) records (End kind) f w w tt h.cause
     (λ p i. end-phase p (cycles_in records) kind i.0 h.own) (sym (append-nil w.readings))
-    (powers-quiet o records (End kind) w refl h.keeps.power) (omega arith) refl h.keeps)
+    (powers-quiet o records (End kind) w refl h.keeps.power) (omega arith) refl
+    (keeps-as o (IsInCycle o records) (IsInCycle o records) IsAny (IsBehind kind) (now records f w) (λ p i. i)
+    (behind-own kind h.own) h.keeps))
 
 pub out_of_power : (o : Origin) (instrs : ℕ) (records records2 : List Record) (f : Contents) (w w2 : WorldState)
     → RestsBetween o instrs (now records f w) → records2 ≡ records ++ End Power ∷ [] → w2 ≡ w
-    → Keeps o (IsOver Power) IsAny (now records2 f w2)
+    → Keeps o (IsOver Power) IsRunning (now records2 f w2)
 out_of_power o instrs records records2 f w w2 r e same =
-    let k = keeps-any o (IsBetweenCycles records) (IsBetweenCycles records) IsRunning (now records f w) (λ p h. h) r.keeps in
-    subst (λ v. Keeps o (IsOver Power) IsAny (now records2 f v)) (sym same)
-    (subst (λ x. Keeps o (IsOver Power) IsAny (now x f w)) (sym e)
-    (keeps-push o (IsBetweenCycles records) (IsOver Power) IsAny records (End Power) f w w tt tt
+    let k = r.keeps in
+    subst (λ v. Keeps o (IsOver Power) IsRunning (now records2 f v)) (sym same)
+    (subst (λ x. Keeps o (IsOver Power) IsRunning (now x f w)) (sym e)
+    (keeps-push o (IsBetweenCycles records) (IsOver Power) IsRunning records (End Power) f w w tt tt
     (λ p h. ap (λ q. phase_after q (End Power)) h) (sym (append-nil w.readings))
     (powers-quiet o records (End Power) w refl k.power) (omega arith) refl k))
+
+-- no cycle is left, and no tick of one that began
+pub spent-out : (o : Origin) (records : List Record) (w w2 : WorldState) → Powers o records w → IsIdle o records w → w.cycles ≡ 0
+    → w2 ≡ w → IsSpent o.world w2
+spent-out o records w w2 p idle none same =
+    let left : left_of p.begun w.left ≡ 0 = idle-left p.begun (cycles_in records) (cycles_in o.records) w.left p.counted idle in
+    let ticks : w.spent + left_of p.begun w.left ≡ o.world.spent + sum p.begun = p.ticks in
+    subst (IsSpent o.world) (sym same) (record { none = none; begun = p.begun; spans = p.spans; ticks = omega arith })
 
 -- ---- want of memory
 
 pub whole-between : (o : Origin) (instrs : ℕ) (records records2 : List Record) (f : Contents) (w : WorldState)
-    → RestsBetween o instrs (now records f w) → records2 ≡ records → Keeps o IsWhole IsAny (now records2 f w)
+    → RestsBetween o instrs (now records f w) → records2 ≡ records → Keeps o IsWhole IsRunning (now records2 f w)
 whole-between o instrs records records2 f w r e =
-    subst (λ x. Keeps o IsWhole IsAny (now x f w)) (sym e)
-    (keeps-any o (IsBetweenCycles records) IsWhole IsRunning (now records f w) (λ p h. subst IsWhole (sym h) tt) r.keeps)
+    subst (λ x. Keeps o IsWhole IsRunning (now x f w)) (sym e)
+    (keeps-as o (IsBetweenCycles records) IsWhole IsRunning IsRunning (now records f w) (λ p h. subst IsWhole (sym h) tt)
+    (λ status h. h) r.keeps)
 
 pub whole-within : (o : Origin) (instrs : ℕ) (records : List Record) (f : Contents) (w : WorldState)
-    → RestsWithin o instrs (now records f w) → Keeps o IsWhole IsAny (now records f w)
+    → RestsWithin o instrs (now records f w) → Keeps o IsWhole IsRunning (now records f w)
 whole-within o instrs records f w r =
-    keeps-any o (IsInCycle o records) IsWhole IsRunning (now records f w) (λ p h. subst IsWhole (sym h.0) tt) r.keeps
+    keeps-as o (IsInCycle o records) IsWhole IsRunning IsRunning (now records f w) (λ p h. subst IsWhole (sym h.0) tt)
+    (λ status h. h) r.keeps

@@ -4,6 +4,8 @@ use Rattle.base16.specs.Memory.{words_of}
 use Rattle.base16.specs.declared.reading.Reading.{Reading}
 use Rattle.board_map.specs.Recovered.{Machine, recovered}
 use Rattle.board_map.specs.WellFormed.{IsWellFormed}
+use Rattle.display.specs.Display.{display_of, ShowsSame, AreInData}
+use Rattle.display.proofs.Same.{ShowsSame-join}
 use Rattle.fram.specs.Contents.{Contents}
 use Rattle.ideal430.specs.Agreement.{Agrees, Claim}
 use Rattle.ideal430.specs.Ideal.{Ideal}
@@ -12,10 +14,12 @@ use Rattle.world.specs.History.{Point, Story, after}
 use Rattle.world.specs.World.{WorldState, Spends}
 use Rattle.world.specs.declared.history.Record.{Record}
 use Rattle.world.specs.declared.history.Record.TheVariants.{Read, Commit}
+use Rattle.world.specs.declared.history.Shown.{Shown}
 use Rattle.player.specs.Form.{Phase, phase_after, cycles_in, read_in, reads_of}
-use Rattle.player.specs.Playing.{Origin, marks_of, commits_of, kept_in, added_in, story_in, IsFresh, HasRecovered, IsAny, Always, left_of, Powers, IsShut, IsPrinted, IsRight, readings_so_far, Moment, now, Keeps}
+use Rattle.player.specs.Playing.{Origin, marks_of, commits_of, kept_in, shown_in, shown_with, added_in, story_in, IsFresh, HasRecovered, IsAny, Always, left_of, Powers, IsShut, IsPrinted, IsRight, readings_so_far, Moment, now, Keeps}
 use Rattle.player.specs.Turning.{IsInCycle, read_records}
 use Rattle.player.proofs.Records.{cycles-more, in_cycle-more, adds-more, story-more, phase-more, reads-more, right-more, IsQuiet, quiet-last, quiet-earlier}
+use Rattle.player.proofs.Showing.{Leads, agrees-shows}
 
 -- ---- claims
 
@@ -31,9 +35,9 @@ has-still S period m m2 t e h = record {
   stands = h.stands;
 }
 
-pub has-any : (S : IdealEnd → Type 0) (period : ℕ) (m : ℕ → ℕ) (t : Ideal) → HasRecovered S period m t
-    → HasRecovered IsAny period m t
-has-any S period m t h = record { fits = h.fits; fresh = h.fresh; stands = tt }
+pub has-as : (S S2 : IdealEnd → Type 0) (period : ℕ) (m : ℕ → ℕ) (t : Ideal) → ((status : IdealEnd) → S status → S2 status)
+    → HasRecovered S period m t → HasRecovered S2 period m t
+has-as S S2 period m t goes h = record { fits = h.fits; fresh = h.fresh; stands = goes t.status h.stands }
 
 -- ---- time goes on
 
@@ -103,6 +107,8 @@ keeps-on o form S records f f2 w w2 still calm some k =
       commits = k.commits;
       number = k.number ∙ sym (ap commits_of still.recovered);
       marks = k.marks ∙ sym (ap marks_of still.recovered);
+      shown = subst (λ (x : Machine). ShowsSame (story_in o records).last.display (display_of o.scalars x.memory))
+          (sym still.recovered) k.shown;
       uncommitted = λ n. still.recovered ∙ k.uncommitted n;
       machine = λ start s. claim-map start (story_in o records).last.readings (story_in o records).last.instrs
           (HasRecovered S o.world.period m) (HasRecovered S o.world.period m2)
@@ -140,6 +146,7 @@ keeps-push o form form2 S records x f w w2 quiet right goes reads power later pe
       commits = right-more o records x k.added k.commits right;
       number = ap (λ (p : Point). p.number) last ∙ k.number;
       marks = ap (λ (p : Point). p.marks) last ∙ k.marks;
+      shown = subst (λ (p : Point). ShowsSame p.display (shown_in o.scalars f)) (sym last) k.shown;
       uncommitted = λ n. k.uncommitted (sym (ap length earlier) ∙ n);
       machine = λ start t. subst (λ (p : Point). Claim start p.readings p.instrs
           (HasRecovered S o.world.period (words_of f.words))) (sym last) (k.machine start t);
@@ -152,9 +159,9 @@ keeps-push o form form2 S records x f w w2 quiet right goes reads power later pe
       poked = k.poked;
     }
 
-pub keeps-any : (o : Origin) (form form2 : Phase → Type 0) (S : IdealEnd → Type 0) (a : Moment)
-    → ((p : Phase) → form p → form2 p) → Keeps o form S a → Keeps o form2 IsAny a
-keeps-any o form form2 S a goes k = record {
+pub keeps-as : (o : Origin) (form form2 : Phase → Type 0) (S S2 : IdealEnd → Type 0) (a : Moment)
+    → ((p : Phase) → form p → form2 p) → ((status : IdealEnd) → S status → S2 status) → Keeps o form S a → Keeps o form2 S2 a
+keeps-as o form form2 S S2 a goes stands k = record {
   added = k.added;
   form_is = goes _ k.form_is;
   reads = k.reads;
@@ -162,10 +169,11 @@ keeps-any o form form2 S a goes k = record {
   commits = k.commits;
   number = k.number;
   marks = k.marks;
+  shown = k.shown;
   uncommitted = k.uncommitted;
   machine = λ start s. claim-map start (story_in o a.records).last.readings (story_in o a.records).last.instrs
-      (HasRecovered S o.world.period (words_of a.fram.words)) (HasRecovered IsAny o.world.period (words_of a.fram.words))
-      (λ t h. has-any S o.world.period (words_of a.fram.words) t h) (k.machine start s);
+      (HasRecovered S o.world.period (words_of a.fram.words)) (HasRecovered S2 o.world.period (words_of a.fram.words))
+      (λ t h. has-as S S2 o.world.period (words_of a.fram.words) t stands h) (k.machine start s);
   instrs_later = k.instrs_later;
   marks_later = k.marks_later;
   commits_later = k.commits_later;
@@ -174,6 +182,10 @@ keeps-any o form form2 S a goes k = record {
   shut = k.shut;
   poked = k.poked;
 }
+
+pub keeps-any : (o : Origin) (form form2 : Phase → Type 0) (S : IdealEnd → Type 0) (a : Moment)
+    → ((p : Phase) → form p → form2 p) → Keeps o form S a → Keeps o form2 IsAny a
+keeps-any o form form2 S a goes k = keeps-as o form form2 S IsAny a goes (λ status h. tt) k
 
 -- ---- readings
 
@@ -214,20 +226,21 @@ some-earlier earlier p h =
     omega arith
 
 pub keeps-commit : (o : Origin) (S S2 : IdealEnd → Type 0) (records : List Record) (f f2 : Contents) (w w2 : WorldState)
-    (number marks i pc sp log : ℕ) → Keeps o (IsInCycle o records) S (now records f w) → Calm w w2
+    (number marks i pc sp log : ℕ) (sets : List Shown) → Keeps o (IsInCycle o records) S (now records f w) → Calm w w2
     → cycles_in o.records < cycles_in records
     → IsWellFormed (words_of f2.words) → f2.poked ≡ f.poked → IsShut (kept_in f2) → number ≡ commits_of (kept_in f) + 1
     → commits_of (kept_in f2) ≡ number → marks_of (kept_in f2) ≡ marks
     → marks + o.world.spent ≤ marks_of (kept_in o.fram) + w2.spent
     → number + o.world.spent ≤ commits_of (kept_in o.fram) + w2.spent
     → i + o.world.spent ≤ w2.spent → log ≤ 256
+    → AreInData o.scalars → Leads o.scalars (story_in o records).last.display sets (kept_in f2).memory
     → Always o (readings_so_far (story_in o records)) i
     (λ t. HasRecovered S2 o.world.period (words_of f2.words) t × IsPrinted number marks pc sp t)
-    → Keeps o (IsInCycle o (records ++ Commit number marks i pc sp 155 log [] ∷ [])) S2
-    (now (records ++ Commit number marks i pc sp 155 log [] ∷ []) f2 w2)
-keeps-commit o S S2 records f f2 w w2 number marks i pc sp log k calm some formed poked shut next commits_are marks_are low
-    high later fits is =
-    let x = Commit number marks i pc sp 155 log [] in
+    → Keeps o (IsInCycle o (records ++ Commit number marks i pc sp 155 log sets ∷ [])) S2
+    (now (records ++ Commit number marks i pc sp 155 log sets ∷ []) f2 w2)
+keeps-commit o S S2 records f f2 w w2 number marks i pc sp log sets k calm some formed poked shut next commits_are marks_are low
+    high later fits placed led is =
+    let x = Commit number marks i pc sp 155 log sets in
     let s = story_in o records in
     let told : story_in o (records ++ x ∷ []) ≡ after s x = story-more o records x k.added in
     let p : Powers o records w2 = powers-calm o records w w2 some calm k.power in
@@ -251,9 +264,16 @@ keeps-commit o S S2 records f f2 w w2 number marks i pc sp log k calm some forme
         machine = λ start t. claim-map start (readings_so_far s) i
             (λ u. HasRecovered S2 o.world.period (words_of f2.words) u × IsPrinted number marks pc sp u)
             (IsPrinted number marks pc sp) (λ u h. h.1) (is start t);
+        sets_are = led.sets_are;
+        shown = λ start t. claim-map start (readings_so_far s) i
+            (λ u. HasRecovered S2 o.world.period (words_of f2.words) u × IsPrinted number marks pc sp u)
+            (λ u. ShowsSame (shown_with s sets) (display_of o.scalars u.core.memory))
+            (λ u h. ShowsSame-join led.shows (agrees-shows o.scalars u (kept_in f2).registers (kept_in f2).memory
+            ((kept_in f2).state 0) None ((kept_in f2).state 3 + 65536 * (kept_in f2).state 4) placed h.0.fits)) (is start t);
       });
       number = ap (λ (v : Story). v.last.number) told ∙ sym commits_are;
       marks = ap (λ (v : Story). v.last.marks) told ∙ sym marks_are;
+      shown = subst (λ (v : Story). ShowsSame v.last.display (shown_in o.scalars f2)) (sym told) led.shows;
       uncommitted = λ n. absurd (some-earlier s.earlier s.last (sym (ap (λ (v : Story). length v.earlier) told) ∙ n));
       machine = λ start t. subst (λ (v : Story). Claim start v.last.readings v.last.instrs
           (HasRecovered S2 o.world.period (words_of f2.words))) (sym told)

@@ -7,3 +7,5 @@ pub mod Turns
 pub mod Cycles
 pub mod Calls
 pub mod Starting
+pub mod Showing
+pub mod Placed

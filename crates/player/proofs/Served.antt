@@ -206,3 +206,13 @@ answers n registers registers2 m m2 work work2 w w2 answer room s =
     (deed-kind (service_at n) n s.value (view_of registers) m work.segment None) s.answers s.passes.left s.refused s.effect
     (few-entries (deed_found n s.value registers m work) work.segment (count_of m) (omega arith)
     (deed-short n s.value (view_of registers) m work.segment))
+
+-- a commit found at most 256 entries
+pub log-fits : (n : ℕ) (registers registers2 : List ℕ) (m m2 : ℕ → ℕ) (work work2 : Work) (w w2 : WorldState) (answer : Served)
+    (c : Option Committed) → count_of m + 8 + work.block_length ≤ 256
+    → Serves n registers m work w answer registers2 m2 work2 w2
+    → ((P : Type 0) → OnPower answer P → P) → committed_in answer ≡ c → IfSome c (λ k. k.log ≤ 256)
+log-fits n registers registers2 m m2 work work2 w w2 answer c room s power same =
+    subst (λ x. IfSome x (λ k. k.log ≤ 256)) same
+    (power (IsStepped work work2 w2.spent (committed_in answer))
+    (answers n registers registers2 m m2 work work2 w w2 answer room s).stepped).log

@@ -1,10 +1,13 @@
--- A loaded board is where a machine starts.
+-- A loaded board is where a machine starts, and so is one on which a playing can go on.
 use Rattle.std.proofs.Common.{◌≡◌, ℕ, refl, sym, subst, arith, None, []}
 use Rattle.base16.specs.Memory.{words_of}
 use Rattle.fram.specs.Contents.{Contents}
 use Rattle.ideal430.specs.Agreement.{Agrees}
+use Rattle.ideal430.specs.Ideal.{Ideal, run, with_more}
 use Rattle.ideal430.specs.Loaded.{start_of}
-use Rattle.player.specs.Playing.{Origin, marks_of, commits_of, kept_in, IsPlayable, Starts, started}
+use Rattle.ideal430.specs.Uses.{IsClean}
+use Rattle.player.specs.Form.{Phase}
+use Rattle.player.specs.Playing.{Origin, origin, marks_of, commits_of, kept_in, story_in, HasRecovered, IsRunning, IsPlayable, Starts, started, Moment, Keeps}
 
 pub load-playable : (f : Contents) → ((k : ℕ) → (kept_in f).state k ≡ 0) → IsPlayable (kept_in f)
 load-playable f zero_state =
@@ -48,4 +51,17 @@ load-starts o zero_state a =
         fresh = record { ticks = refl; entries = refl; commits_are = commits; length = refl; period_is = refl };
         stands = refl;
       };
+    }
+
+-- where a playing left a machine that runs, another one may begin
+pub keeps-start : (o : Origin) (form : Phase → Type 0) (a : Moment) (start : Ideal) → Keeps o form IsRunning a → Starts start o
+    → IsClean (story_in o a.records).last.instrs (with_more start (story_in o a.records).last.readings)
+    → Starts (run (story_in o a.records).last.instrs (with_more start (story_in o a.records).last.readings))
+    (origin a.fram a.world a.records o.scalars)
+keeps-start o form a start k s clean =
+    let h = k.machine start s clean in
+    let t = run (story_in o a.records).last.instrs (with_more start (story_in o a.records).last.readings) in
+    record {
+      left = h.0;
+      at = subst (λ n. HasRecovered IsRunning n (words_of a.fram.words) t) (sym k.period) h.1;
     }

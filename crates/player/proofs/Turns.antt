@@ -1,6 +1,6 @@
 -- A turn in which a service was called, served and recorded.
 use Rattle.std.proofs.Common.{◌≡◌, ℕ, ◌+◌, ◌*◌, ◌/◌, ◌%◌, ◌<◌, ◌≤◌, refl, sym, ap, ◌∙◌, subst, arith, Option, Some, None, List, [], ◌∷◌, ◌++◌, length, slice_index, append_assoc, append-nil, add-one, if◌then◌else◌}
-use Rattle.std.specs.Prelude.{fold}
+use Rattle.std.specs.Prelude.{IfSome, fold}
 use Rattle.base16.specs.Memory.{words_of}
 use Rattle.base16.specs.declared.end.EndKind.{EndKind}
 use Rattle.base16.specs.declared.end.EndKind.TheVariants.{Done, Power, StackFull, BlockFull, OutputFull, Wild}
@@ -11,6 +11,7 @@ use Rattle.board_map.specs.declared.work.Work.{Work}
 use Rattle.core430.specs.Registers.{view_of}
 use Rattle.core430.specs.Shown.{AtMostOnePut}
 use Rattle.core430.specs.Step.{Service as Calls, step}
+use Rattle.display.specs.Display.{AreInData}
 use Rattle.fram.specs.Contents.{Contents}
 use Rattle.ideal430.specs.Agreement.{Agrees, Claim}
 use Rattle.ideal430.specs.Ideal.{Ideal, moved, served as served_by, next, with_more}
@@ -21,7 +22,7 @@ use Rattle.ideal430.specs.declared.state.IdealEnd.TheVariants.{Running, Ended}
 use Rattle.ideal430.proofs.Running.{next-running}
 use Rattle.ideal430.proofs.Runs.{claim-step}
 use Rattle.services.specs.Following.{StandsAt, Follows, Counts, CountsAlike}
-use Rattle.services.specs.Serving.{ask_found, IsClosed, IsReady, IsCommitted, OnCommit, OnPower, OnGoes, committed_in, Serves}
+use Rattle.services.specs.Serving.{ask_found, IsClosed, IsReady, IsCommitted, OnCommit, OnPower, OnGoes, committed_in, Serves, Tells}
 use Rattle.services.specs.declared.acting.Committed.{Committed}
 use Rattle.services.specs.declared.serving.Served.{Served}
 use Rattle.services.specs.declared.serving.Served.TheVariants as served
@@ -34,12 +35,13 @@ use Rattle.world.specs.declared.history.Record.{Record}
 use Rattle.world.specs.declared.history.Record.TheVariants.{Read, Commit}
 use Rattle.player.specs.Form.{cycles_in}
 use Rattle.player.specs.Playing.{Origin, marks_of, commits_of, kept_in, IsShut, story_in, HasRecovered, IsRunning, IsAny, Always, IsPrinted, readings_so_far, HasEnded, IsCause, now, Keeps}
-use Rattle.player.specs.Turning.{IsInCycle, RestsWithin, OnGoing, HasCome, Goes, IsCut, Ends, Turned, turn_of, read_records, commit_records, instrs_after, IsServed}
+use Rattle.player.specs.Turning.{IsInCycle, RestsWithin, OnGoing, HasCome, Goes, IsCut, Ends, Turned, turn_of, read_records, sets_behind, commit_records, instrs_after, IsServed}
 use Rattle.player.specs.declared.turning.Turn.{Turn}
 use Rattle.player.proofs.Records.{Adds, story-append, story-more}
 use Rattle.player.proofs.Keeping.{claim-map, IsStill, Calm, keeps-on, keeps-any, keeps-reads, keeps-commit}
 use Rattle.player.proofs.Moves.{gate, IsWritten, written, still-written, come-left, uses-running, arrives-call}
 use Rattle.player.proofs.Served.{IsStepped, IsAnswer, answers}
+use Rattle.player.proofs.Showing.{Leads, leads}
 
 -- ---- readings are recorded
 
@@ -217,10 +219,10 @@ pub served-turned : (o : Origin) (instrs here n : ℕ) (registers registers1 reg
     → AtMostOnePut (gate work.segment) (words_of f.words) (words_of f1.words) → f1.poked ≡ f.poked → Spends 1 w w1
     → Calls n (record { regs = view_of registers1; memory = words_of f1.words })
     ≡ step (gate work.segment) (record { regs = view_of registers; memory = words_of f.words })
-    → IsServed n (here + 1) registers1 work (now records f1 w1) instrs result registers2 work2 (now records2 f2 w2) instrs2
+    → AreInData o.scalars → IsServed o.scalars n (here + 1) registers1 work (now records f1 w1) instrs result registers2 work2 (now records2 f2 w2) instrs2
     → Turned result o instrs2 (here + 1) registers2 work2 (now records2 f2 w2)
 served-turned o instrs here n registers registers1 registers2 work work2 records records2 f f1 f2 w w1 w2 instrs2 result g put
-    poked spends e v =
+    poked spends e placed v =
     subst (λ r. Turned r o instrs2 (here + 1) registers2 work2 (now records2 f2 w2)) (sym v.result_is)
     (subst (λ i. Turned (turn_of v.answer) o i (here + 1) registers2 work2 (now records2 f2 w2)) (sym v.instrs_are)
     (subst (λ r. Turned (turn_of v.answer) o (instrs_after (committed_in v.answer) instrs (here + 1)) (here + 1) registers2 work2
@@ -337,12 +339,12 @@ served-turned o instrs here n registers registers1 registers2 work work2 records
         (stood_over kind c q start s)
 
     -- the story with a commit, and its readings
-    now_told : (c : Committed) → story_in o (behind ++ commit_records (Some c) registers2 work2 (here + 1))
+    now_told : (c : Committed) → story_in o (behind ++ commit_records o.scalars (Some c) registers2 work2 (here + 1) (words_of f2.words))
         ≡ after (story_in o behind) (Commit work2.commits work2.marks (here + 1) (slice_index registers2 0)
-        (slice_index registers2 1) c.words c.log [])
+        (slice_index registers2 1) c.words c.log (sets_behind o.scalars c.log (words_of f2.words)))
     now_told c = story-more o behind _ (keeps-passed o IsRunning records f f1 w mid rs still1 passed_mid k).added
 
-    so : (c : Committed) → readings_so_far (story_in o (behind ++ commit_records (Some c) registers2 work2 (here + 1)))
+    so : (c : Committed) → readings_so_far (story_in o (behind ++ commit_records o.scalars (Some c) registers2 work2 (here + 1) (words_of f2.words)))
         ≡ readings_so_far (story_in o behind)
     so c = ap readings_so_far (now_told c) ∙ append-nil (readings_so_far (story_in o behind))
 
@@ -365,27 +367,37 @@ served-turned o instrs here n registers registers1 registers2 work work2 records
         subst (λ x. OnCommit x (IsCommitted w1 w2 registers2 work2 (words_of f2.words))
         (recovered (words_of f2.words) ≡ recovered (words_of f1.words))) q v.serves.recovers
 
+    -- its changes lead from what was shown to what the memory recovers to
+    led : (c : Committed) → committed_in v.answer ≡ Some c
+        → Leads o.scalars (story_in o behind).last.display (sets_behind o.scalars c.log (words_of f2.words)) (kept_in f2).memory
+    led c q =
+        leads o.scalars (story_in o behind).last.display c.log (words_of f1.words) (words_of f2.words) registers2 work2 w1 w2 placed
+        is_written.well_formed
+        (subst (λ x. IfSome x (λ a. Tells a.log (words_of f1.words) (words_of f2.words))) q v.serves.tells) (committed c q)
+        (keeps-passed o IsRunning records f f1 w mid rs still1 passed_mid k).shown
+
     keeps_committed : (S : IdealEnd → Type 0) (end : IdealEnd) (c : Committed) → S end → committed_in v.answer ≡ Some c
         → IsStepped work work2 w2.spent (Some c)
         → Always o (readings_so_far (story_in o behind)) (here + 1) (HasStood end registers2 work2 (words_of f2.words) w2)
-        → Keeps o (IsInCycle o (behind ++ commit_records (Some c) registers2 work2 (here + 1))) S
-        (now (behind ++ commit_records (Some c) registers2 work2 (here + 1)) f2 w2)
+        → Keeps o (IsInCycle o (behind ++ commit_records o.scalars (Some c) registers2 work2 (here + 1) (words_of f2.words))) S
+        (now (behind ++ commit_records o.scalars (Some c) registers2 work2 (here + 1) (words_of f2.words)) f2 w2)
     keeps_committed S end c standing q st claim =
         let is = committed c q in
         let number : work2.commits ≡ commits_of (kept_in f) + 1 = st.commits ∙ ap (λ x. x + 1) g.number in
         let a : w1.spent ≡ w.spent + 1 = spends.spent in
         let shut = closed (Some c) st in
+        let sets = sets_behind o.scalars c.log (words_of f2.words) in
         subst (λ x. Keeps o (IsInCycle o (behind ++ Commit work2.commits work2.marks (here + 1) (slice_index registers2 0)
-        (slice_index registers2 1) x c.log [] ∷ [])) S
+        (slice_index registers2 1) x c.log sets ∷ [])) S
         (now (behind ++ Commit work2.commits work2.marks (here + 1) (slice_index registers2 0) (slice_index registers2 1) x c.log
-        [] ∷ []) f2 w2)) (sym st.words)
+        sets ∷ []) f2 w2)) (sym st.words)
         (keeps-commit o IsRunning S behind f1 f2 mid w2 work2.commits work2.marks (here + 1) (slice_index registers2 0)
-        (slice_index registers2 1) c.log (keeps-passed o IsRunning records f f1 w mid rs still1 passed_mid k) calm_mid
+        (slice_index registers2 1) c.log sets (keeps-passed o IsRunning records f f1 w mid rs still1 passed_mid k) calm_mid
         (in_cycle k) v.serves.well_formed v.poked (committed-shut registers2 work2 (words_of f2.words) w1 w2 is shut)
         (number ∙ ap (λ (x : Machine). commits_of x + 1) (sym still1.recovered))
         (committed-commits registers2 work2 (words_of f2.words) w1 w2 is)
         (committed-marks registers2 work2 (words_of f2.words) w1 w2 is) (marks_later (Some c) st)
-        (omega (arith, number, a, v.serves.passes.spent, k.commits_later)) later st.log
+        (omega (arith, number, a, v.serves.passes.spent, k.commits_later)) later st.log placed (led c q)
         (λ start s. claim-map start (readings_so_far (story_in o behind)) (here + 1)
         (HasStood end registers2 work2 (words_of f2.words) w2)
         (λ t. HasRecovered S o.world.period (words_of f2.words) t
@@ -398,7 +410,7 @@ served-turned o instrs here n registers registers1 registers2 work work2 records
 
     by : (a : Served) → v.answer ≡ a
         → Turned (turn_of a) o (instrs_after (committed_in a) instrs (here + 1)) (here + 1) registers2 work2
-        (now (behind ++ commit_records (committed_in a) registers2 work2 (here + 1)) f2 w2)
+        (now (behind ++ commit_records o.scalars (committed_in a) registers2 work2 (here + 1) (words_of f2.words)) f2 w2)
     by served.Off q =
         subst (λ r. IsCut o instrs (now r f2 w2)) (sym (append-nil behind))
         (record { rests = rests_plain (ap committed_in q); none = answer.none q })
@@ -415,7 +427,7 @@ served-turned o instrs here n registers registers1 registers2 work work2 records
         record {
           keeps = keeps_committed IsAny (Ended kind) c tt (ap committed_in q) st (stood_over kind (Some c) q);
           own = answer.own kind (Some c) q;
-          cause = cause o (story_in o (behind ++ commit_records (Some c) registers2 work2 (here + 1))) kind (record {
+          cause = cause o (story_in o (behind ++ commit_records o.scalars (Some c) registers2 work2 (here + 1) (words_of f2.words))) kind (record {
             instrs = here + 1;
             ended = λ start s. subst (λ r. Claim start r (here + 1) (λ t. t.status ≡ Ended kind)) (sym (so c))
                 (ended_over kind (Some c) q start s);

@@ -1,11 +1,14 @@
 -- The playing of a board through power cycles: what holds of its memory, of the outside and of the history at each moment.
-use Rattle.std.specs.Prelude.{◌≡◌, ℕ, ◌+◌, ◌*◌, ◌<◌, ◌≤◌, ◌^◌, List, [], ◌∷◌, ◌++◌, length, drop, sum, None}
+use Rattle.std.specs.Prelude.{◌≡◌, ℕ, ◌+◌, ◌*◌, ◌<◌, ◌≤◌, ◌^◌, List, [], ◌∷◌, ◌++◌, length, drop, fold, sum}
 use Rattle.base16.specs.Memory.{words_of}
 use Rattle.base16.specs.declared.end.EndKind.{EndKind}
 use Rattle.base16.specs.declared.end.EndKind.TheVariants.{Done, Power, StackFull, BlockFull, OutputFull, Wild}
+use Rattle.base16.specs.declared.image.Scalar.{Scalar}
 use Rattle.base16.specs.declared.reading.Reading.{Reading}
 use Rattle.board_map.specs.Recovered.{Machine, recovered}
 use Rattle.board_map.specs.WellFormed.{IsWellFormed}
+use Rattle.display.specs.Display.{display_of, ShowsSame}
+use Rattle.display.specs.Sets.{sets_between}
 use Rattle.fram.specs.Contents.{Contents}
 use Rattle.ideal430.specs.Agreement.{Claim}
 use Rattle.ideal430.specs.Ideal.{Meter, Ideal}
@@ -13,22 +16,24 @@ use Rattle.ideal430.specs.Loaded.{start_of}
 use Rattle.ideal430.specs.declared.state.IdealEnd.{IdealEnd}
 use Rattle.ideal430.specs.declared.state.IdealEnd.TheVariants.{Running, Ended}
 use Rattle.services.specs.Following.{Fits}
-use Rattle.world.specs.History.{Display, Point, Story, beginning, taken_in, after, story}
+use Rattle.world.specs.History.{Display, Point, Story, beginning, changed, taken_in, after, story}
 use Rattle.world.specs.World.{WorldState}
 use Rattle.world.specs.declared.history.Record.{Record}
 use Rattle.world.specs.declared.history.Record.TheVariants.{On, Read, Commit, Off, End}
+use Rattle.world.specs.declared.history.Shown.{Shown}
 use Rattle.player.specs.Form.{Phase, phase_of, cycles_in, reads_of}
 
 -- ---- where a playing begins
 
--- the board's memory, the outside and the records of the history as the playing began
+-- the board's memory, the outside and the records of the history as the playing began, and the scalars that are shown
 pub record Origin : Type 0 where
   pub fram : Contents
   pub world : WorldState
   pub records : List Record
+  pub scalars : List Scalar
 
-abbrev pub origin : Contents → WorldState → List Record → Origin
-origin fram world records = record { fram = fram; world = world; records = records }
+abbrev pub origin : Contents → WorldState → List Record → List Scalar → Origin
+origin fram world records scalars = record { fram = fram; world = world; records = records; scalars = scalars }
 
 -- marks and commit number of a machine
 abbrev pub marks_of : Machine → ℕ
@@ -46,9 +51,9 @@ pub record IsShut (machine : Machine) : Type 0 where
   pub block : machine.state 1 ≡ 0
   pub length : machine.state 2 ≡ 0
 
--- nothing is said of what is shown
-abbrev pub unsaid : Display
-unsaid = record { values = λ s. 0; stamps = λ s. None; outputs = 0; outs = λ i. 0 }
+-- what the memory shows to which it recovers
+abbrev pub shown_in : List Scalar → Contents → Display
+shown_in scalars fram = display_of scalars (kept_in fram).memory
 
 -- the state in which the history of a playing begins: instructions and readings are counted from there on
 abbrev pub first_point : Origin → Point
@@ -57,7 +62,7 @@ first_point o = record {
   marks = marks_of (kept_in o.fram);
   instrs = 0;
   readings = [];
-  display = unsaid;
+  display = shown_in o.scalars o.fram;
 }
 
 -- the records that a playing added
@@ -91,6 +96,11 @@ IsRunning status = status ≡ Running
 abbrev pub IsAny : IdealEnd → Type 0
 IsAny status = Unit {0}
 
+-- behind this end of a run: want of power ends no program
+abbrev pub IsBehind : EndKind → IdealEnd → Type 0
+IsBehind Power status = IsRunning status
+IsBehind kind status = IsAny status
+
 -- a machine from which a playing may go on: it has taken all its readings
 pub record Starts (start : Ideal) (o : Origin) : Type 0 where
   pub left : start.left ≡ []
@@ -120,13 +130,20 @@ pub record IsPrinted (number marks pc sp : ℕ) (t : Ideal) : Type 0 where
 abbrev pub readings_so_far : Story → List Reading
 readings_so_far s = s.last.readings ++ taken_in s.going
 
+-- what was shown at the last commit, with these changes
+abbrev pub shown_with : Story → List Shown → Display
+shown_with s sets = fold changed s.last.display sets
+
 -- A commit has the number after the last one's, wrote 155 words, found at most 256 entries of the undo log, and prints where
--- the machine is on the committed readings after the printed instructions.
-pub record IsCommit (o : Origin) (s : Story) (number marks instrs pc sp words log : ℕ) : Type 0 where
+-- the machine is on the committed readings after the printed instructions. Its changes are the differences from what was
+-- shown at the last commit to what is shown then, and that is what the machine's memory shows.
+pub record IsCommit (o : Origin) (s : Story) (number marks instrs pc sp words log : ℕ) (sets : List Shown) : Type 0 where
   pub number_is : number ≡ s.last.number + 1
   pub words_are : words ≡ 155
   pub log_fits : log ≤ 256
   pub machine : Always o (readings_so_far s) instrs (IsPrinted number marks pc sp)
+  pub sets_are : sets ≡ sets_between o.scalars s.last.display (shown_with s sets)
+  pub shown : Always o (readings_so_far s) instrs (λ t. ShowsSame (shown_with s sets) (display_of o.scalars t.core.memory))
 
 -- the machine ended so on the readings so far
 pub record HasEnded (o : Origin) (s : Story) (kind : EndKind) : Type 0 where
@@ -146,7 +163,7 @@ IsCause o s (Wild address) = Unit {0}
 abbrev pub IsRight : Origin → Story → Record → Type 0
 IsRight o s (On cycle) = Unit {0}
 IsRight o s (Read r) = Unit {0}
-IsRight o s (Commit number marks instrs pc sp words log sets) = IsCommit o s number marks instrs pc sp words log
+IsRight o s (Commit number marks instrs pc sp words log sets) = IsCommit o s number marks instrs pc sp words log sets
 IsRight o s Off = Unit {0}
 IsRight o s (End kind) = IsCause o s kind
 
@@ -170,6 +187,13 @@ pub record Powers (o : Origin) (records : List Record) (world : WorldState) : Ty
   pub cycles : world.cycles + length begun ≡ o.world.cycles
   pub counted : cycles_in records ≡ cycles_in o.records + length begun
 
+-- From one moment to a later one no power cycle is left, and each that began is spent to its end.
+pub record IsSpent (old new : WorldState) : Type 0 where
+  pub none : new.cycles ≡ 0
+  pub begun : List ℕ
+  pub spans : new.spans ≡ old.spans ++ begun
+  pub ticks : new.spent ≡ old.spent + sum begun
+
 -- ---- the whole
 
 -- the records of the history, the board's memory and the outside
@@ -185,6 +209,7 @@ now records fram world = record { records = records; fram = fram; world = world 
 -- gave since, in order, and an `On` for each power cycle that began. Each commit is printed rightly. The memory recovers to
 -- the last commit, or to what it recovered to as the playing began, and that is where the machine is on the committed
 -- readings after the instructions up to that commit: its registers, working segment, marks and settled bytes are the same.
+-- What the history shows at its last commit is what that memory shows.
 pub record Keeps (o : Origin) (form : Phase → Type 0) (standing : IdealEnd → Type 0) (a : Moment) : Type 0 where
   pub added : a.records ≡ o.records ++ added_in o a.records
   pub form_is : form (phase_of (cycles_in o.records) (added_in o a.records))
@@ -193,6 +218,7 @@ pub record Keeps (o : Origin) (form : Phase → Type 0) (standing : IdealEnd →
   pub commits : AreRight o (beginning (first_point o)) (added_in o a.records)
   pub number : (story_in o a.records).last.number ≡ commits_of (kept_in a.fram)
   pub marks : (story_in o a.records).last.marks ≡ marks_of (kept_in a.fram)
+  pub shown : ShowsSame (story_in o a.records).last.display (shown_in o.scalars a.fram)
   -- without a commit the memory recovers to what it did as the playing began
   pub uncommitted : length (story_in o a.records).earlier ≡ 0 → kept_in a.fram ≡ kept_in o.fram
   pub machine : Always o (story_in o a.records).last.readings (story_in o a.records).last.instrs

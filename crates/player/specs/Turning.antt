@@ -2,9 +2,13 @@
 use Rattle.std.specs.Prelude.{◌≡◌, ◌⊎◌, ℕ, ◌+◌, ◌<◌, ◌≤◌, false, List, [], ◌∷◌, ◌++◌, map, length, slice_index, Option, Some, None}
 use Rattle.base16.specs.Memory.{words_of}
 use Rattle.base16.specs.declared.end.EndKind.{EndKind}
+use Rattle.base16.specs.declared.image.Scalar.{Scalar}
 use Rattle.base16.specs.declared.reading.Reading.{Reading}
 use Rattle.board_map.specs.declared.work.Work.{Work}
 use Rattle.core430.specs.Registers.{view_of}
+use Rattle.display.specs.Display.{display_of}
+use Rattle.display.specs.Log.{shown_before}
+use Rattle.display.specs.Sets.{sets_between}
 use Rattle.ideal430.specs.Agreement.{Agrees}
 use Rattle.ideal430.specs.Ideal.{Ideal}
 use Rattle.ideal430.specs.Service.{taken_of}
@@ -22,6 +26,7 @@ use Rattle.world.specs.History.{Attempt}
 use Rattle.world.specs.World.{WorldState}
 use Rattle.world.specs.declared.history.Record.{Record}
 use Rattle.world.specs.declared.history.Record.TheVariants.{Read, Commit}
+use Rattle.world.specs.declared.history.Shown.{Shown}
 
 -- ---- between turns
 
@@ -114,25 +119,30 @@ turn_of (served.End kind c) = turn.End kind
 abbrev pub read_records : List Reading → List Record
 read_records readings = map (λ r. Read r) readings
 
+-- the changes that a commit shows, by the memory behind it: so many entries of the undo log tell what was shown before
+abbrev pub sets_behind : List Scalar → (log : ℕ) → (ℕ → ℕ) → List Shown
+sets_behind scalars log m = sets_between scalars (shown_before scalars log m) (display_of scalars m)
+
 -- the record of a commit, if one was made, after so many instructions
-abbrev pub commit_records : Option Committed → (registers : List ℕ) → Work → (instrs : ℕ) → List Record
-commit_records None registers work instrs = []
-commit_records (Some c) registers work instrs =
-    Commit work.commits work.marks instrs (slice_index registers 0) (slice_index registers 1) c.words c.log [] ∷ []
+abbrev pub commit_records : List Scalar → Option Committed → (registers : List ℕ) → Work → (instrs : ℕ) → (ℕ → ℕ) → List Record
+commit_records scalars None registers work instrs m = []
+commit_records scalars (Some c) registers work instrs m =
+    Commit work.commits work.marks instrs (slice_index registers 0) (slice_index registers 1) c.words c.log
+    (sets_behind scalars c.log m) ∷ []
 
 abbrev pub instrs_after : Option Committed → (instrs here : ℕ) → ℕ
 instrs_after None instrs here = instrs
 instrs_after (Some c) instrs here = here
 
--- Service n was served after so many instructions; its reading is recorded, and then its commit.
-pub record IsServed (n here : ℕ) (registers : List ℕ) (work : Work) (a : Moment) (instrs : ℕ) (result : Turn)
-    (registers2 : List ℕ) (work2 : Work) (b : Moment) (instrs2 : ℕ) : Type 0 where
+-- Service n was served after so many instructions; its reading is recorded, and then its commit, by these scalars.
+pub record IsServed (scalars : List Scalar) (n here : ℕ) (registers : List ℕ) (work : Work) (a : Moment) (instrs : ℕ)
+    (result : Turn) (registers2 : List ℕ) (work2 : Work) (b : Moment) (instrs2 : ℕ) : Type 0 where
   pub answer : Served
   pub result_is : result ≡ turn_of answer
   pub serves : Serves n registers (words_of a.fram.words) work a.world answer registers2 (words_of b.fram.words) work2 b.world
   pub records_are : b.records
       ≡ (a.records ++ read_records (taken_of (ask_found n registers (words_of a.fram.words) work) serves.value))
-      ++ commit_records (committed_in answer) registers2 work2 here
+      ++ commit_records scalars (committed_in answer) registers2 work2 here (words_of b.fram.words)
   pub instrs_are : instrs2 ≡ instrs_after (committed_in answer) instrs here
   pub sixteen : length registers2 ≡ 16
   pub poked : b.fram.poked ≡ a.fram.poked

@@ -1,16 +1,19 @@
-ghost use Rattle.std.specs.Prelude.{◌≡◌, ◌+◌, ◌<◌, ◌^◌, OnErr, IfOk, MatchResult, vec_len};
+ghost use Rattle.std.specs.Prelude.{◌≡◌, ◌+◌, ◌<◌, ◌^◌, true, [], OnErr, IfOk, MatchResult, vec_len};
 ghost use Rattle.std.specs.Vec.{vec_capacity};
-ghost use Rattle.player.specs.Form.{IsOver, IsWhole, cycles_in};
-ghost use Rattle.player.specs.Playing.{Origin, IsAny, IsPlayable, Keeps, kept_in, now};
+ghost use Rattle.display.specs.Display.{AreInData};
+ghost use Rattle.display.specs.Index.{IsIndexOf};
+ghost use Rattle.player.specs.Form.{IsOver, IsWhole, is_power, cycles_in};
+ghost use Rattle.player.specs.Playing.{Origin, IsRunning, IsBehind, IsPlayable, IsSpent, Keeps, kept_in, now};
 ghost use Rattle.player.specs.Turning.{IsIdle, Begins, RestsWithin, RestsBetween, Cycled};
 
 use crate::recording::push_within;
 use crate::turning::{Turn, take_turn};
 use base16::{EndKind, NoMemory, Symbols};
 use boot::boot;
+use display::ScalarIndex;
 use fram::Fram;
 use std::alloc::Global;
-use world::{Record, World};
+use world::{Record, Shown, World};
 
 /// Boots and runs until power fails or the run ends.
 fn cycle<W: World>(
@@ -19,16 +22,23 @@ fn cycle<W: World>(
     world: &mut W,
     records: &mut Vec<Record>,
     symbols: &Symbols,
+    index: &ScalarIndex,
+    room: &mut Vec<Shown>,
     instrs: &mut u32,
 ) -> Result<Option<EndKind>, NoMemory>
     ghost origin: { Origin }
     requires begins { Begins origin instrs.old (now records.old.items fram.old (W.state world.old)) }
     requires room { vec_len records.old < vec_capacity records.old }
     requires playable { IsPlayable (kept_in origin.fram) }
+    requires scalars { symbols.now.scalars ≡ origin.scalars }
+    requires placed { AreInData symbols.now.scalars }
+    requires index { IsIndexOf symbols.now.scalars index.now }
+    requires empty { room.old.items ≡ [] }
     ensures after { IfOk result (λ e. Cycled e origin instrs.new (now records.new.items fram.new (W.state world.new))) }
     ensures err { OnErr result (RestsWithin origin instrs.new (now records.new.items fram.new (W.state world.new))) }
     ensures room { vec_len records.new < vec_capacity records.new }
     ensures cycles { (W.state world.new).cycles ≡ (W.state world.old).cycles }
+    ensures empty { room.new.items ≡ [] }
 {
     let Ok((mut regs, mut work)) = boot(fram, world) else {
         return Ok(None);
@@ -37,7 +47,8 @@ fn cycle<W: World>(
     let mut here = *instrs;
     'turns: loop {
         match take_turn(
-            alloc, fram, world, records, symbols, &mut regs, &mut work, &mut here, instrs,
+            alloc, fram, world, records, symbols, index, room, &mut regs, &mut work, &mut here,
+            instrs,
         )? {
             Turn::Goes => (),
             Turn::Off => return Ok(None),
@@ -53,6 +64,7 @@ pub fn cycles<W: World>(
     world: &mut W,
     records: &mut Vec<Record>,
     symbols: &Symbols,
+    index: &ScalarIndex,
     begun: u32,
 ) -> Result<EndKind, NoMemory>
     ghost origin: { Origin }
@@ -61,10 +73,15 @@ pub fn cycles<W: World>(
     requires begun { begun ≡ cycles_in records.old.items }
     requires few { origin.world.cycles + cycles_in origin.records < 2 ^ 32 }
     requires playable { IsPlayable (kept_in origin.fram) }
+    requires scalars { symbols.now.scalars ≡ origin.scalars }
+    requires placed { AreInData symbols.now.scalars }
+    requires index { IsIndexOf symbols.now.scalars index.now }
     ensures plays { MatchResult result
-        (λ kind. Keeps origin (IsOver kind) IsAny (now records.new.items fram.new (W.state world.new)))
-        (λ e. Keeps origin IsWhole IsAny (now records.new.items fram.new (W.state world.new))) }
+        (λ kind. Keeps origin (IsOver kind) (IsBehind kind) (now records.new.items fram.new (W.state world.new)))
+        (λ e. Keeps origin IsWhole IsRunning (now records.new.items fram.new (W.state world.new))) }
+    ensures power { IfOk result (λ kind. is_power kind ≡ true → IsSpent origin.world (W.state world.new)) }
 {
+    let mut room = Vec::new(alloc);
     let mut instrs = 0;
     let mut number = begun;
     'powered: loop {
@@ -80,7 +97,17 @@ pub fn cycles<W: World>(
         }
         number += 1;
         push_within(records, Record::On { cycle: number });
-        if let Some(kind) = cycle(alloc, fram, world, records, symbols, &mut instrs)? {
+        let ended = cycle(
+            alloc,
+            fram,
+            world,
+            records,
+            symbols,
+            index,
+            &mut room,
+            &mut instrs,
+        )?;
+        if let Some(kind) = ended {
             push_within(records, Record::End { kind });
             return Ok(kind);
         }

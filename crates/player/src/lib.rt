@@ -9,7 +9,7 @@ mod playing;
 mod recording;
 mod turning;
 
-pub use laws::a_loaded_board_starts;
+pub use laws::{a_loaded_board_starts, a_playing_goes_on};
 pub use playable::is_playable;
 pub use playing::play;
 

@@ -1,12 +1,14 @@
-ghost use Rattle.std.specs.Prelude.{◌<◌, ◌^◌, MatchResult};
+ghost use Rattle.std.specs.Prelude.{◌≡◌, ◌<◌, ◌^◌, true, IfOk, MatchResult};
 ghost use Rattle.base16.specs.Memory.{words_of};
 ghost use Rattle.board_map.specs.WellFormed.{IsWellFormed};
-ghost use Rattle.player.specs.Form.{IsOver, IsWhole, cycles_in};
-ghost use Rattle.player.specs.Playing.{IsAny, IsPlayable, Keeps, kept_in, now, origin};
+ghost use Rattle.display.specs.Display.{AreInData};
+ghost use Rattle.player.specs.Form.{IsOver, IsWhole, is_power, cycles_in};
+ghost use Rattle.player.specs.Playing.{IsRunning, IsBehind, IsPlayable, IsSpent, Keeps, kept_in, now, origin};
 
 use crate::cycling::cycles;
 use crate::recording::cycles_begun;
 use base16::{EndKind, NoMemory, Sequence, Symbols};
+use display::ScalarIndex;
 use fram::Fram;
 use std::alloc::Global;
 use std::mem;
@@ -24,15 +26,18 @@ pub fn play<W: World>(
     requires well_formed { IsWellFormed (words_of fram.old.words) }
     requires playable { IsPlayable (kept_in fram.old) }
     requires begun { cycles_in book.old.records < 2 ^ 31 }
-    ensures plays { let o = origin fram.old (W.state world.old) book.old.records in
+    requires placed { AreInData symbols.now.scalars }
+    ensures plays { let o = origin fram.old (W.state world.old) book.old.records symbols.now.scalars in
         MatchResult result
-        (λ kind. Keeps o (IsOver kind) IsAny (now book.new.records fram.new (W.state world.new)))
-        (λ e. Keeps o IsWhole IsAny (now book.new.records fram.new (W.state world.new))) }
+        (λ kind. Keeps o (IsOver kind) (IsBehind kind) (now book.new.records fram.new (W.state world.new)))
+        (λ e. Keeps o IsWhole IsRunning (now book.new.records fram.new (W.state world.new))) }
+    ensures power { IfOk result (λ kind. is_power kind ≡ true → IsSpent (W.state world.old) (W.state world.new)) }
 {
+    let index = ScalarIndex::new(alloc, symbols.scalars.as_slice())?;
     let mut records = mem::replace(&mut book.records, Sequence::new(alloc)).into_vec();
     let begun = cycles_begun(records.as_slice()) as u32;
     let _lawful = world.spent();
-    let ended = cycles(alloc, fram, world, &mut records, symbols, begun);
+    let ended = cycles(alloc, fram, world, &mut records, symbols, &index, begun);
     book.records = Sequence::from_vec(records);
     ended
 }

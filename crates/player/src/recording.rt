@@ -1,13 +1,18 @@
-ghost use Rattle.std.specs.Prelude.{◌≡◌, ◌+◌, ◌<◌, ◌≤◌, ◌++◌, ◌∷◌, [], drop, length, vec_len};
+ghost use Rattle.std.specs.Prelude.{◌≡◌, ◌+◌, ◌<◌, ◌≤◌, ◌++◌, ◌∷◌, [], drop, length, IfSome, vec_len};
 ghost use Rattle.std.specs.Vec.{vec_capacity};
+ghost use Rattle.base16.specs.Memory.{words_of};
+ghost use Rattle.display.specs.Display.{AreInData};
+ghost use Rattle.display.specs.Index.{IsIndexOf};
 ghost use Rattle.player.specs.Form.{is_on, cycles_in};
-ghost use Rattle.player.specs.Turning.{read_records, commit_records, instrs_after};
+ghost use Rattle.player.specs.Turning.{read_records, sets_behind, commit_records, instrs_after};
 
 use base16::{Regs, Sequence, Symbols};
 use board_map::Work;
+use display::{ScalarIndex, sets_since};
 use fram::Fram;
 use services::Committed;
 use std::alloc::Global;
+use std::mem;
 use world::{Record, Shown, World};
 
 /// Whether a power cycle began.
@@ -60,19 +65,35 @@ pub fn record_reading<W: World>(world: &W, records: &mut Vec<Record>, before: u3
     }
 }
 
-/// What a commit changed of what is shown. Nothing is told yet.
-fn sets_of(alloc: Global, _fram: &Fram, _symbols: &Symbols, _log: u16) -> Sequence<Shown>
-    ensures { result ≡ [] }
+/// What a commit changed of what is shown, where it cleared so many entries of the undo log. It takes the room.
+fn sets_of(
+    alloc: Global,
+    fram: &Fram,
+    symbols: &Symbols,
+    index: &ScalarIndex,
+    log: u16,
+    room: &mut Vec<Shown>,
+) -> Sequence<Shown>
+    requires log { log ≤ 256 }
+    requires placed { AreInData symbols.now.scalars }
+    requires index { IsIndexOf symbols.now.scalars index.now }
+    requires empty { room.old.items ≡ [] }
+    requires room { 1281 ≤ vec_capacity room.old }
+    ensures sets { result ≡ sets_behind symbols.now.scalars log (words_of fram.now.words) }
+    ensures empty { room.new.items ≡ [] }
 {
-    Sequence::new(alloc)
+    let taken = mem::replace(room, Vec::new(alloc));
+    sets_since(fram, symbols, index, log, taken)
 }
 
-/// Records a commit, if one was made, after so many instructions.
+/// Records a commit, if one was made, after so many instructions. A commit takes the room for its changes.
 pub fn record_commit(
     alloc: Global,
     fram: &Fram,
     records: &mut Vec<Record>,
     symbols: &Symbols,
+    index: &ScalarIndex,
+    room: &mut Vec<Shown>,
     committed: Option<Committed>,
     regs: &Regs,
     work: &Work,
@@ -80,7 +101,14 @@ pub fn record_commit(
     instrs: &mut u32,
 )
     requires room { vec_len records.old < vec_capacity records.old }
-    ensures records { records.new.items ≡ records.old.items ++ commit_records committed regs.now.r work.now here }
+    requires log { IfSome committed (λ c. c.log ≤ 256) }
+    requires placed { AreInData symbols.now.scalars }
+    requires index { IsIndexOf symbols.now.scalars index.now }
+    requires empty { room.old.items ≡ [] }
+    requires sets { 1281 ≤ vec_capacity room.old }
+    ensures records { records.new.items ≡ records.old.items
+        ++ commit_records symbols.now.scalars committed regs.now.r work.now here (words_of fram.now.words) }
+    ensures empty { room.new.items ≡ [] }
     ensures capacity { vec_capacity records.old ≤ vec_capacity records.new }
     ensures room { vec_len records.new ≤ vec_len records.old + 1 }
     ensures instrs { instrs.new ≡ instrs_after committed instrs.old here }
@@ -94,7 +122,7 @@ pub fn record_commit(
             sp: regs.r[1],
             words: commit.words,
             log: commit.log,
-            sets: sets_of(alloc, fram, symbols, commit.log),
+            sets: sets_of(alloc, fram, symbols, index, commit.log, room),
         };
         push_within(records, entry);
         *instrs = here;

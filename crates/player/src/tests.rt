@@ -1,5 +1,8 @@
+ghost use Rattle.std.specs.Prelude.{IfOk};
+ghost use Rattle.display.specs.Display.{AreInData};
+
 use crate::{is_playable, play};
-use base16::{EndKind, Reading, Sequence, Symbols};
+use base16::{EndKind, Kind, Name, Reading, Scalar, Sequence, Symbols};
 use board_map::well_formed;
 use fram::Fram;
 use std::process::Abort;
@@ -23,7 +26,25 @@ fn board<R: Abort + AllocGlobal>(rt: &R, code: &[u16]) -> Result<Fram, Fail> {
     Ok(fram)
 }
 
-/// Plays a board with no symbols through the cycles of a trace, into an empty history.
+/// The scalar `count` of two bytes at 4000.
+#[tactic(auto, using(crate::proofs::Placed::two_bytes_placed))]
+fn symbols<R: AllocGlobal>(rt: &R) -> Result<Symbols, Fail>
+    ensures { IfOk result (λ symbols. AreInData symbols.scalars) }
+{
+    let mut scalars = Vec::new(rt.alloc());
+    scalars.push(Scalar {
+        name: Name::new(rt.alloc(), b"count")?,
+        address: 0x4000,
+        kind: Kind::Int,
+        stamp: None,
+    })?;
+    Ok(Symbols {
+        scalars: Sequence::from_vec(scalars),
+        functions: Sequence::new(rt.alloc()),
+    })
+}
+
+/// Plays a board through the cycles of a trace, into an empty history.
 fn played<R: Abort + AllocGlobal>(
     rt: &R,
     fram: &mut Fram,
@@ -33,10 +54,7 @@ fn played<R: Abort + AllocGlobal>(
     assert!(rt; well_formed(fram));
     assert!(rt; is_playable(fram));
     assert!(rt; book.records.len() == 0);
-    let symbols = Symbols {
-        scalars: Sequence::new(rt.alloc()),
-        functions: Sequence::new(rt.alloc()),
-    };
+    let symbols = symbols(rt)?;
     Ok(play(rt.alloc(), fram, world, book, &symbols)?)
 }
 

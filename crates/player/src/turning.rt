@@ -1,4 +1,4 @@
-ghost use Rattle.std.specs.Prelude.{◌≡◌, ◌+◌, ◌-◌, ◌<◌, ◌≤◌, ◌^◌, not, length, vec_len, OnErr, IfOk};
+ghost use Rattle.std.specs.Prelude.{◌≡◌, ◌+◌, ◌-◌, ◌<◌, ◌≤◌, ◌^◌, not, [], length, vec_len, OnErr, IfOk};
 ghost use Rattle.std.specs.Vec.{vec_capacity};
 ghost use Rattle.base16.specs.Memory.{words_of};
 ghost use Rattle.board_map.specs.Map.{count_of, segment_of, in_segment};
@@ -6,6 +6,8 @@ ghost use Rattle.board_map.specs.WellFormed.{IsWellFormed};
 ghost use Rattle.core430.specs.Registers.{view_of};
 ghost use Rattle.core430.specs.Shown.{AtMostOnePut, OnService, outcome_shown};
 ghost use Rattle.core430.specs.Step.{step as step_of};
+ghost use Rattle.display.specs.Display.{AreInData};
+ghost use Rattle.display.specs.Index.{IsIndexOf};
 ghost use Rattle.services.specs.Serving.{IsClosed};
 ghost use Rattle.player.specs.Playing.{Origin, IsPlayable, kept_in, now};
 ghost use Rattle.player.specs.Turning.{RestsWithin, Goes, Turned, OnGoes, IsServed};
@@ -14,10 +16,11 @@ use crate::recording::{record_commit, record_reading};
 use base16::{EndKind, NoMemory, Regs, Symbols};
 use board_map::Work;
 use core430::{Stepped, step};
+use display::{MOST_SETS, ScalarIndex};
 use fram::Fram;
 use services::{Gated, Served, serve};
 use std::alloc::Global;
-use world::{Record, World};
+use world::{Record, Shown, World};
 
 /// What a turn of the running program came to.
 #[derive(Clone, Copy, Debug, PartialEq, Eq)]
@@ -50,6 +53,8 @@ fn called<W: World>(
     world: &mut W,
     records: &mut Vec<Record>,
     symbols: &Symbols,
+    index: &ScalarIndex,
+    room: &mut Vec<Shown>,
     regs: &mut Regs,
     work: &mut Work,
     here: u32,
@@ -65,9 +70,14 @@ fn called<W: World>(
     requires marks { work.old.marks < 2 ^ 32 - 1 }
     requires commits { work.old.commits < 2 ^ 32 - 1 }
     requires given { length (W.state world.old).readings < (W.state world.old).spent }
-    ensures served { IsServed n here regs.old.r work.old (now records.old.items fram.old (W.state world.old)) instrs.old
+    requires placed { AreInData symbols.now.scalars }
+    requires index { IsIndexOf symbols.now.scalars index.now }
+    requires empty { room.old.items ≡ [] }
+    requires sets { 1281 ≤ vec_capacity room.old }
+    ensures served { IsServed symbols.now.scalars n here regs.old.r work.old (now records.old.items fram.old (W.state world.old)) instrs.old
         result regs.new.r work.new (now records.new.items fram.new (W.state world.new)) instrs.new }
     ensures room { vec_len records.new < vec_capacity records.new }
+    ensures empty { room.new.items ≡ [] }
 {
     let before = world.given();
     let served = serve(fram, world, regs, work, n);
@@ -77,26 +87,29 @@ fn called<W: World>(
         Served::Off => Turn::Off,
         Served::Done { committed } => {
             record_commit(
-                alloc, fram, records, symbols, committed, regs, work, here, instrs,
+                alloc, fram, records, symbols, index, room, committed, regs, work, here, instrs,
             );
             Turn::Goes
         }
         Served::End { kind, committed } => {
             record_commit(
-                alloc, fram, records, symbols, committed, regs, work, here, instrs,
+                alloc, fram, records, symbols, index, room, committed, regs, work, here, instrs,
             );
             Turn::End { kind }
         }
     }
 }
 
-/// One instruction of the running program, with the service that it calls. Memory for the records of a turn is taken first.
+/// One instruction of the running program, with the service that it calls. Memory for the records of a turn and for the
+/// changes of a commit is taken first.
 pub fn take_turn<W: World>(
     alloc: Global,
     fram: &mut Fram,
     world: &mut W,
     records: &mut Vec<Record>,
     symbols: &Symbols,
+    index: &ScalarIndex,
+    room: &mut Vec<Shown>,
     regs: &mut Regs,
     work: &mut Work,
     here: &mut u32,
@@ -106,14 +119,20 @@ pub fn take_turn<W: World>(
     requires goes { Goes origin instrs.old here.old regs.old.r work.old (now records.old.items fram.old (W.state world.old)) }
     requires room { vec_len records.old < vec_capacity records.old }
     requires playable { IsPlayable (kept_in origin.fram) }
+    requires scalars { symbols.now.scalars ≡ origin.scalars }
+    requires placed { AreInData symbols.now.scalars }
+    requires index { IsIndexOf symbols.now.scalars index.now }
+    requires empty { room.old.items ≡ [] }
     ensures after { IfOk result (λ t. Turned t origin instrs.new here.new regs.new.r work.new
         (now records.new.items fram.new (W.state world.new))) }
     ensures err { OnErr result (RestsWithin origin instrs.new (now records.new.items fram.new (W.state world.new))) }
     ensures left { IfOk result (λ t. OnGoes t ((W.state world.new).left < (W.state world.old).left)) }
     ensures room { vec_len records.new < vec_capacity records.new }
     ensures cycles { (W.state world.new).cycles ≡ (W.state world.old).cycles }
+    ensures empty { room.new.items ≡ [] }
 {
     records.reserve(3)?;
+    room.reserve(MOST_SETS)?;
     if world.tick().is_err() {
         return Ok(Turn::Off);
     }
@@ -128,7 +147,7 @@ pub fn take_turn<W: World>(
         Stepped::Service { n } => {
             *here += 1;
             Ok(called(
-                alloc, fram, world, records, symbols, regs, work, *here, instrs, n,
+                alloc, fram, world, records, symbols, index, room, regs, work, *here, instrs, n,
             ))
         }
     }

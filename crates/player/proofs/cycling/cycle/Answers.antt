@@ -19,8 +19,9 @@ turns-init g c = record {
       (record { well_formed = c.boot.ensures.well_formed; recovered = c.boot.ensures.recovered; poked = c.boot.ensures.poked })
       c.in-Ok.ensures.ticks c.in-Ok.ensures.no_entries c.in-Ok.ensures.since c.count.ensures.all c.in-Ok.ensures.registers
       c.in-Ok.ensures.work c.in-Ok.ensures.memory;
-  room = c.requires.1.1.0;
+  records_room = c.requires.1.1.0;
   cycles = c.in-Ok.ensures.ticks.cycles;
+  empty = c.requires.1.1.1.1.1.1.1;
 }
 
 pub turns-preserved : goal.turns-preserved
@@ -28,6 +29,7 @@ turns-preserved g c = record {
   goes = subst (λ t. Turned t g.origin c.take_turn.new.instrs c.take_turn.new.here c.take_turn.new.regs.r c.take_turn.new.work
       (now c.take_turn.new.records.items c.take_turn.new.fram (g.W.World.state c.take_turn.new.world))) c.in-Goes.is
       c.in_ok-take_turn.ensures.after;
-  room = c.take_turn.ensures.room;
+  records_room = c.take_turn.ensures.room;
   cycles = c.take_turn.ensures.cycles ∙ c.turns.invariant.cycles;
+  empty = c.take_turn.ensures.empty;
 }

@@ -1,4 +1,4 @@
-use Rattle.std.proofs.Common.{◌≡◌, ◌<◌, vec_len}
+use Rattle.std.proofs.Common.{◌≡◌, ◌<◌, [], vec_len}
 use Rattle.std.specs.Vec.{vec_capacity}
 use Rattle.player.specs.Playing.{now}
 use Rattle.player.specs.Turning.{Goes}
@@ -10,8 +10,9 @@ ghost-take_turn g a = g.origin
 abbrev pub invariant-turns : goal.invariant-turns
 invariant-turns g l = record {
   goes : Goes g.origin l.instrs l.here l.regs.r l.work (now l.records.items l.fram (g.W.World.state l.world));
-  room : vec_len l.records < vec_capacity l.records;
+  records_room : vec_len l.records < vec_capacity l.records;
   cycles : (g.W.World.state l.world).cycles ≡ (g.W.World.state l.fn.world).cycles;
+  empty : l.room.items ≡ [];
 }
 
 abbrev pub decreases-turns : goal.decreases-turns

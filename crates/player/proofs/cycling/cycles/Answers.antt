@@ -3,28 +3,30 @@ use Rattle.std.proofs.Common.{◌≡◌, ◌+◌, ◌∙◌, inr, ap, subst, ari
 use Rattle.std.proofs.lemmas.Result.{err_from_is_err_and}
 use Rattle.base16.specs.declared.end.EndKind.TheVariants.{Power}
 use Rattle.world.specs.declared.history.Record.TheVariants.{On, Off, End}
-use Rattle.player.specs.Form.{cycles_in}
+use Rattle.player.specs.Form.{is_power, cycles_in}
 use Rattle.player.specs.Playing.{now}
 use Rattle.player.specs.Turning.{Begins, IsCut, Ends, Cycled}
 use Rattle.player.proofs.Records.{cycles-more}
-use Rattle.player.proofs.Cycles.{cycles-total, woken, cut, over, out_of_power, whole-between, whole-within}
+use Rattle.player.proofs.Cycles.{cycles-total, woken, cut, over, out_of_power, spent-out, not-both, whole-between, whole-within}
 use Rattle.player.proofs.cycling.cycles.Goals as goal
 
-pub returns-in_err-reserve : goal.returns-in_err-reserve
-returns-in_err-reserve g c =
+pub returns-in_err-reserve-clause-plays : goal.returns-in_err-reserve-clause-plays
+returns-in_err-reserve-clause-plays g c =
     let p = err_from_is_err_and c.from_residual.result c.from_residual.ensures.1 in
     let whole = whole-between g.origin c.powered.instrs c.powered.records.items c.reserve.new.self.items c.powered.fram
     (g.W.World.state c.powered.world) c.powered.invariant.rests c.reserve.ensures.items in
-    record { plays = rw p.1 whole }
+    rw p.1 whole
 
-pub returns-then-not-wake : goal.returns-then-not-wake
-returns-then-not-wake g c =
-    record {
-      plays =
-          out_of_power g.origin c.powered.instrs c.powered.records.items c.push_within.new.items.items c.powered.fram
-          (g.W.World.state c.powered.world) (g.W.World.state c.wake.new.self) c.powered.invariant.rests
-          (c.push_within.ensures.items ∙ ap (λ r. r ++ End Power ∷ []) c.reserve.ensures.items) c.if-not-wake.ensures.unchanged;
-    }
+pub returns-then-not-wake-clause-plays : goal.returns-then-not-wake-clause-plays
+returns-then-not-wake-clause-plays g c =
+    out_of_power g.origin c.powered.instrs c.powered.records.items c.push_within.new.items.items c.powered.fram
+    (g.W.World.state c.powered.world) (g.W.World.state c.wake.new.self) c.powered.invariant.rests
+    (c.push_within.ensures.items ∙ ap (λ r. r ++ End Power ∷ []) c.reserve.ensures.items) c.if-not-wake.ensures.unchanged
+
+pub returns-then-not-wake-clause-power : goal.returns-then-not-wake-clause-power
+returns-then-not-wake-clause-power g c = λ e.
+    spent-out g.origin c.powered.records.items (g.W.World.state c.powered.world) (g.W.World.state c.wake.new.self)
+    c.powered.invariant.rests.keeps.power c.powered.invariant.idle c.if-not-wake.ensures.none c.if-not-wake.ensures.unchanged
 
 pub cycle-requires : goal.cycle-requires
 cycle-requires g c =
@@ -45,28 +47,38 @@ cycle-requires g c =
             c.push_within-in-powered.ensures.len,
             c.push_within-in-powered.ensures.capacity,
           ),
-          c.requires.1.1.1.1.1,
+          (
+            c.requires.1.1.1.1.1.0,
+            (
+              c.requires.1.1.1.1.1.1.0,
+              (c.requires.1.1.1.1.1.1.1.0, (c.requires.1.1.1.1.1.1.1.1, c.powered.invariant.empty)),
+            ),
+          ),
         ),
       ),
     )
 
-pub returns-in_err-kind : goal.returns-in_err-kind
-returns-in_err-kind g c =
-    let p = err_from_is_err_and c.from_residual-in_err-kind.result c.from_residual-in_err-kind.ensures.1 in
+pub returns-in_err-ended-clause-plays : goal.returns-in_err-ended-clause-plays
+returns-in_err-ended-clause-plays g c =
+    let p = err_from_is_err_and c.from_residual-in_err-ended.result c.from_residual-in_err-ended.ensures.1 in
     let whole = whole-within g.origin c.cycle.new.instrs c.cycle.new.records.items c.cycle.new.fram
-    (g.W.World.state c.cycle.new.world) c.in_err-kind.ensures.err in
-    record { plays = rw p.1 whole }
+    (g.W.World.state c.cycle.new.world) c.in_err-ended.ensures.err in
+    rw p.1 whole
 
-pub returns-in-Some : goal.returns-in-Some
-returns-in-Some g c =
+pub returns-in-Some-clause-plays : goal.returns-in-Some-clause-plays
+returns-in-Some-clause-plays g c =
     let a = now c.cycle.new.records.items c.cycle.new.fram (g.W.World.state c.cycle.new.world) in
     let ends : Ends g.origin c.in-Some.kind a =
-    subst (λ e. Cycled e g.origin c.cycle.new.instrs a) c.in-Some.is c.in_ok-kind.ensures.after in
-    record {
-      plays =
-          over g.origin c.in-Some.kind c.cycle.new.records.items c.push_within-in-Some.new.items.items c.cycle.new.fram
-          (g.W.World.state c.cycle.new.world) ends c.push_within-in-Some.ensures.items;
-    }
+    subst (λ e. Cycled e g.origin c.cycle.new.instrs a) c.in-Some.is c.in_ok-ended.ensures.after in
+    over g.origin c.in-Some.kind c.cycle.new.records.items c.push_within-in-Some.new.items.items c.cycle.new.fram
+    (g.W.World.state c.cycle.new.world) ends c.push_within-in-Some.ensures.items
+
+pub returns-in-Some-clause-power : goal.returns-in-Some-clause-power
+returns-in-Some-clause-power g c =
+    let a = now c.cycle.new.records.items c.cycle.new.fram (g.W.World.state c.cycle.new.world) in
+    let ends : Ends g.origin c.in-Some.kind a =
+    subst (λ e. Cycled e g.origin c.cycle.new.instrs a) c.in-Some.is c.in_ok-ended.ensures.after in
+    λ e. absurd (not-both (is_power c.in-Some.kind) ends.own e)
 
 pub powered-preserved : goal.powered-preserved
 powered-preserved g c =
@@ -74,7 +86,7 @@ powered-preserved g c =
     let w3 = g.W.World.state c.cycle.new.world in
     let a = now c.cycle.new.records.items c.cycle.new.fram w3 in
     let off : IsCut g.origin c.cycle.new.instrs a =
-    subst (λ e. Cycled e g.origin c.cycle.new.instrs a) c.in_default.is c.in_ok-kind.ensures.after in
+    subst (λ e. Cycled e g.origin c.cycle.new.instrs a) c.in_default.is c.in_ok-ended.ensures.after in
     let before : w.cycles + cycles_in c.powered.records.items ≡ g.origin.world.cycles + cycles_in g.origin.records =
     cycles-total g.origin c.powered.records.items w c.powered.invariant.rests.keeps.power in
     let behind : w3.cycles + cycles_in c.cycle.new.records.items ≡ g.origin.world.cycles + cycles_in g.origin.records =
@@ -89,4 +101,5 @@ powered-preserved g c =
           c.cycle.new.fram w3 off c.push_within-in-powered-2.ensures.items;
       idle = inr off.none;
       number = omega arith;
+      empty = c.cycle.ensures.empty;
     }

@@ -1,8 +1,10 @@
 -- One instruction, with the service that it calls, leads from where the program goes to where the turn says.
-use Rattle.std.proofs.Common.{◌≡◌, false, Result, Ok, Err, OnOk, is_err, sym, subst}
+use Rattle.std.proofs.Common.{◌≡◌, ◌+◌, List, false, Result, Ok, Err, OnOk, is_err, sym, subst}
+use Rattle.base16.specs.declared.image.Scalar.{Scalar}
+use Rattle.display.specs.Display.{AreInData}
 use Rattle.world.specs.World.{Spends}
 use Rattle.player.specs.Playing.{now}
-use Rattle.player.specs.Turning.{Goes}
+use Rattle.player.specs.Turning.{Goes, IsServed}
 use Rattle.player.proofs.Moves.{next-goes, wild-ends, may-call}
 use Rattle.player.proofs.Turns.{served-turned}
 use Rattle.player.proofs.turning.take_turn.Goals as goal
@@ -41,21 +43,21 @@ pub called-requires-clause-well_formed : goal.called-requires-clause-well_formed
 called-requires-clause-well_formed g c =
     (may-call g.origin c.args.instrs.now c.args.here.now c.args.regs.now.r c.args.work.now c.args.records.now.items
     c.args.fram.now c.instruction.new.fram (g.W.World.state c.args.world.now) (g.W.World.state c.tick.new.self) c.requires.1.0
-    c.instruction.ensures.one_put (ok_of c.tick.result c.tick.ensures.ok c.if-is_err.ensures.value) c.requires.1.1.1
+    c.instruction.ensures.one_put (ok_of c.tick.result c.tick.ensures.ok c.if-is_err.ensures.value) c.requires.1.1.1.0
     c.tick.ensures.lawful_before).well_formed
 
 pub called-requires-clause-entries : goal.called-requires-clause-entries
 called-requires-clause-entries g c =
     (may-call g.origin c.args.instrs.now c.args.here.now c.args.regs.now.r c.args.work.now c.args.records.now.items
     c.args.fram.now c.instruction.new.fram (g.W.World.state c.args.world.now) (g.W.World.state c.tick.new.self) c.requires.1.0
-    c.instruction.ensures.one_put (ok_of c.tick.result c.tick.ensures.ok c.if-is_err.ensures.value) c.requires.1.1.1
+    c.instruction.ensures.one_put (ok_of c.tick.result c.tick.ensures.ok c.if-is_err.ensures.value) c.requires.1.1.1.0
     c.tick.ensures.lawful_before).ready.room
 
 pub called-requires-clause-segment : goal.called-requires-clause-segment
 called-requires-clause-segment g c =
     (may-call g.origin c.args.instrs.now c.args.here.now c.args.regs.now.r c.args.work.now c.args.records.now.items
     c.args.fram.now c.instruction.new.fram (g.W.World.state c.args.world.now) (g.W.World.state c.tick.new.self) c.requires.1.0
-    c.instruction.ensures.one_put (ok_of c.tick.result c.tick.ensures.ok c.if-is_err.ensures.value) c.requires.1.1.1
+    c.instruction.ensures.one_put (ok_of c.tick.result c.tick.ensures.ok c.if-is_err.ensures.value) c.requires.1.1.1.0
     c.tick.ensures.lawful_before).ready.segment
 
 pub returns-in-Service-clause-after : goal.returns-in-Service-clause-after
@@ -71,4 +73,9 @@ returns-in-Service-clause-after g c =
     served-turned g.origin c.args.instrs.now c.args.here.now c.in-Service.n c.args.regs.now.r c.instruction.new.regs.r
     c.called.new.regs.r c.args.work.now c.called.new.work c.reserve.new.self.items c.called.new.records.items c.args.fram.now
     c.instruction.new.fram c.called.new.fram w w1 w2 c.called.new.instrs c.called.result goes c.instruction.ensures.one_put
-    c.instruction.ensures.poked spends c.in-Service.ensures.is c.called.ensures.served
+    c.instruction.ensures.poked spends c.in-Service.ensures.is
+    (subst (λ (x : List Scalar). AreInData x) c.requires.1.1.1.1.0 c.requires.1.1.1.1.1.0)
+    (subst (λ (x : List Scalar). IsServed x c.in-Service.n (c.args.here.now + 1) c.instruction.new.regs.r c.args.work.now
+    (now c.reserve.new.self.items c.instruction.new.fram w1) c.args.instrs.now c.called.result c.called.new.regs.r
+    c.called.new.work (now c.called.new.records.items c.called.new.fram w2) c.called.new.instrs) c.requires.1.1.1.1.0
+    c.called.ensures.served)
