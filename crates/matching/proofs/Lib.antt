@@ -1,4 +1,7 @@
 pub mod CellsMatch
 mod Example
+pub mod Finding
+pub mod Lying
+pub mod Making
 pub mod SameBytes
 pub mod Storing

@@ -1,21 +1,28 @@
 -- What holds of matching words: statements, which the laws of the crate show.
-use Rattle.std.specs.Prelude.{ℕ, ◌+◌}
+use Rattle.std.specs.Prelude.{◌≡◌, ℕ, ◌+◌, length, slice_get, Some, Ok}
 use Rattle.base16.specs.declared.image.Kind.{Kind}
-use Rattle.c_run.specs.Actions.{kept}
-use Rattle.c_values.specs.Objects.{with_scalar}
+use Rattle.base16.specs.Placement.{frame_below}
+use Rattle.c_meaning.specs.After.{start, objects_of}
+use Rattle.c_run.specs.Actions.{kept, top_of, with_call, left_call}
+use Rattle.c_run.specs.Making.{fresh_objects}
+use Rattle.c_values.specs.Objects.{accessed, with_scalar, with_cleared}
+use Rattle.c_values.specs.Pointers.{at}
 use Rattle.c_values.specs.declared.state.Saved.{Saved}
 use Rattle.c_values.specs.declared.state.State.{State}
 use Rattle.c_values.specs.declared.value.Value.{Value}
 use Rattle.cells430.specs.Cells.{Cells, Shape, Facts, set_cell}
 use Rattle.core430.specs.Uses.{IsWithin}
+use Rattle.core_tree.specs.Heights.{frame_bytes}
 use Rattle.core_tree.specs.LawfulCore.{Every}
 use Rattle.core_tree.specs.declared.program.Core.{Core}
+use Rattle.core_tree.specs.declared.program.Function.{Function}
 use Rattle.ideal430.specs.Agreement.{Agrees}
 use Rattle.ideal430.specs.Ideal.{Ideal}
 use Rattle.ideal430.specs.Service.{Block}
 use Rattle.ideal430.specs.Settled.{Bytes}
 use Rattle.matching.specs.Covering.{cell_of, Covered, IsCovered, Apart}
-use Rattle.matching.specs.Matches.{encoded, placed, WordsAre, Matches}
+use Rattle.matching.specs.Laid.{AreLaid, IsMade}
+use Rattle.matching.specs.Matches.{address_of, encoded, placed, WordsAre, Matches}
 use Rattle.matching.specs.Said.{said}
 use Rattle.matching.specs.Simulates.{MachineMatches}
 
@@ -36,3 +43,42 @@ StoreSetsCell core s f n address offset v k =
     Every (Apart n address offset k) (placed core (kept s)) → Covered f (placed core (kept s)) (placed core (kept s))
     → Covered (set_cell f (address + offset) (cell_of k (encoded (placed core (kept s)) k v)))
     (placed core (kept (with_scalar n offset v s))) (placed core (kept (with_scalar n offset v s)))
+
+-- no two objects of a state that a run makes share a byte
+abbrev pub SharesNoByte : Core → (next : ℕ) → Saved → Type 0
+SharesNoByte core next s = IsMade core next s → AreLaid (placed core s)
+
+-- the object n is alive and has an address, and no other scalar stands where the one at an offset of it does
+pub record StandsAlone (core : Core) (s : State) (n offset : ℕ) (k : Kind) : Type 0 where
+  pub address : ℕ
+  pub is : address_of (placed core (kept s)) n ≡ Some address
+  pub apart : Every (Apart n address offset k) (placed core (kept s))
+
+-- a scalar that is accessed stands alone
+abbrev pub AccessedStandsAlone : Core → (next : ℕ) → State → (n offset : ℕ) → Kind → Value → Type 0
+AccessedStandsAlone core next s n offset k v =
+    IsMade core next (kept s) → accessed s (at n offset) k ≡ Ok v → StandsAlone core s n offset k
+
+-- ---- what a run does to the objects of its state
+
+abbrev pub StartIsMade : Core → Type 0
+StartIsMade core = IsMade core (length core.globals) (kept (start core))
+
+abbrev pub StoredIsMade : Core → (next : ℕ) → State → (n offset : ℕ) → Value → Type 0
+StoredIsMade core next s n offset v = IsMade core next (kept s) → IsMade core next (kept (with_scalar n offset v s))
+
+abbrev pub ClearedIsMade : Core → (next : ℕ) → State → (n : ℕ) → Type 0
+ClearedIsMade core next s n = IsMade core next (kept s) → IsMade core next (kept (with_cleared n s))
+
+-- a state with a call more, whose objects come to life
+abbrev pub with_fresh : Core → (next function frame : ℕ) → Function → State → State
+with_fresh core next function frame f s =
+    with_call (record { function = function; frame = frame; locals = fresh_objects next (objects_of core.structs f) }) s
+
+abbrev pub EnteredIsMade : Core → (next : ℕ) → State → (function frame : ℕ) → Function → Type 0
+EnteredIsMade core next s function frame f = slice_get core.functions function ≡ Some f
+    → frame_below (top_of s) (frame_bytes core.structs f) ≡ Some frame → IsMade core next (kept s)
+    → IsMade core (next + length (objects_of core.structs f)) (kept (with_fresh core next function frame f s))
+
+abbrev pub LeftIsMade : Core → (next : ℕ) → State → Type 0
+LeftIsMade core next s = IsMade core next (kept s) → IsMade core next (kept (left_call s))

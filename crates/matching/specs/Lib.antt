@@ -1,4 +1,5 @@
 pub mod Covering
+pub mod Laid
 pub mod Laws
 pub mod Matches
 pub mod Said

@@ -6,7 +6,10 @@ ghost use Rattle.c_values.specs.declared.value.Value.{Value};
 ghost use Rattle.cells430.specs.Cells.{Cells};
 ghost use Rattle.core_tree.specs.declared.program.Core.{Core};
 ghost use Rattle.ideal430.specs.Ideal.{Ideal};
-ghost use Rattle.matching.specs.Laws.{CellsMatch, MatchesAlong, StoreSetsCell};
+ghost use Rattle.core_tree.specs.declared.program.Function.{Function};
+ghost use Rattle.matching.specs.Laws.{AccessedStandsAlone, CellsMatch, ClearedIsMade, EnteredIsMade, LeftIsMade, MatchesAlong, SharesNoByte, StartIsMade, StoredIsMade, StoreSetsCell};
+
+use core_layout::{frames_lie_apart, scalars_fit, scalars_rise};
 
 /// Where the words of the machine match a state by settled bytes alone, so does every memory that goes along with the machine.
 pub fn settled_bytes_match()
@@ -23,4 +26,32 @@ pub fn cells_match()
 pub fn a_store_sets_one_cell()
     ensures { (core : Core) → (s : State) → (f : Cells) → (n address offset : ℕ) → (v : Value) → (k : Kind)
         → StoreSetsCell core s f n address offset v k }
+{}
+
+/// No two objects of a state that a run makes share a byte.
+pub fn objects_share_no_byte()
+    ensures { (core : Core) → (next : ℕ) → (s : Saved) → SharesNoByte core next s }
+{
+    scalars_fit();
+    scalars_rise();
+    frames_lie_apart();
+}
+
+/// A scalar that is accessed stands at the address of its object, and no other scalar stands there.
+pub fn an_accessed_scalar_stands_alone()
+    ensures { (core : Core) → (next : ℕ) → (s : State) → (n offset : ℕ) → (k : Kind) → (v : Value)
+        → AccessedStandsAlone core next s n offset k v }
+{
+    objects_share_no_byte();
+}
+
+/// At the start, and after a store, a declaration, a call and its end, the objects of a run are as a run makes them.
+pub fn runs_keep_objects_made()
+    ensures start { (core : Core) → StartIsMade core }
+    ensures store { (core : Core) → (next : ℕ) → (s : State) → (n offset : ℕ) → (v : Value)
+        → StoredIsMade core next s n offset v }
+    ensures declaration { (core : Core) → (next : ℕ) → (s : State) → (n : ℕ) → ClearedIsMade core next s n }
+    ensures call { (core : Core) → (next : ℕ) → (s : State) → (function frame : ℕ) → (f : Function)
+        → EnteredIsMade core next s function frame f }
+    ensures end { (core : Core) → (next : ℕ) → (s : State) → LeftIsMade core next s }
 {}

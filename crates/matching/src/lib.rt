@@ -3,4 +3,7 @@
 
 mod laws;
 
-pub use laws::{a_store_sets_one_cell, cells_match, settled_bytes_match};
+pub use laws::{
+    a_store_sets_one_cell, an_accessed_scalar_stands_alone, cells_match, objects_share_no_byte,
+    runs_keep_objects_made, settled_bytes_match,
+};
