@@ -4,15 +4,15 @@ use Rattle.std.proofs.lemmas.Bool.{cases_eq}
 use Rattle.std.specs.Prelude.{nat_eq, slice_index}
 use Rattle.base16.specs.Board.{outputs_start, outputs_end, first_stack_pointer, data_start, data_end, code_start, code_end}
 use Rattle.base16.specs.declared.reading.Reading.{Reading}
-use Rattle.core430.specs.Bytes.{byte_at}
 use Rattle.core430.specs.Uses.{AreWords}
 use Rattle.ideal430.specs.Places.{is_between, is_even, is_fixed}
 use Rattle.ideal430.specs.Loaded.{control_word, loaded, start_registers, start_of}
-use Rattle.cells430.specs.Cells.{Cell, Word, Byte, Cells, CellAt, Live, OfOutput, OfData, OfFrame, OfOlder, Shape, HasCode, Facts, output_cell, with_outputs}
+use Rattle.cells430.specs.Cells.{Cell, Word, Byte, Cells, CellAt, Live, OfOutput, OfData, OfFrame, OfOlder, Shape, HasCode, Facts, output_cell, with_outputs, HasValues}
+use Rattle.cells430.specs.Scenes.{StartsAs}
 use Rattle.cells430.specs.Stretch.{outside, at}
 use Rattle.cells430.proofs.Settling.{output_fixed, data_fixed}
 use Rattle.cells430.proofs.Cells.{same_cell, live_next}
-use Rattle.cells430.proofs.OutputCells.{where_is, outer, inside, first_cell, even_cell, odd_cell}
+use Rattle.cells430.proofs.OutputCells.{where_is, outer, inside, first_cell, even_cell, odd_cell, outputs_shape}
 
 -- the machine at the start, as rules speak of it
 pub start_at : (m : ℕ → ℕ) (readings : List Reading) → start_of m readings ≡ at 0 (λ k. 0) start_registers m is_fixed
@@ -59,16 +59,15 @@ start_fixed ps b (OfOlder l k t m) = absurd (omega arith)
 
 -- cells of outputs and data stand at the start, where memory has their values
 pub start_facts : (c : ℕ → ℕ) (lo hi : ℕ) (m : ℕ → ℕ) (ps : ℕ → ℕ) (f : Cells) → Shape 0 first_stack_pointer ps f
-    → HasCode c lo hi m → AreWords m
-    → ((a w : ℕ) → f a ≡ Some (Word (Some w)) → m a ≡ w) → ((a v : ℕ) → f a ≡ Some (Byte (Some v)) → byte_at m a ≡ v)
-    → Facts c lo hi f m is_fixed
-start_facts c lo hi m ps f s code words word_is byte_is = record
-    { code = code; stands = stand; lasting = λ b e. e; words = words }
+    → HasCode c lo hi m → AreWords m → HasValues f m → Facts c lo hi f m is_fixed
+start_facts c lo hi m ps f s code words has = record { code = code; stands = stand; lasting = λ b e. e; words = words }
   where
     stand : (a : ℕ) (x : Cell) → f a ≡ Some x → CellAt m is_fixed a x
-    stand a (Word (Some w)) e = let live = s.live a (Word (Some w)) e in let fit = s.fits a (Word (Some w)) e in
-        (word_is a w e, start_fixed ps a live, start_fixed ps (a + 1) (live_next 0 first_stack_pointer ps a fit.0 live))
-    stand a (Byte (Some v)) e = (byte_is a v e, start_fixed ps a (s.live a (Byte (Some v)) e))
+    stand a (Word (Some w)) e =
+        let live = s.live a (Word (Some w)) e in
+        let fit = s.fits a (Word (Some w)) e in
+        (has.words a w e, start_fixed ps a live, start_fixed ps (a + 1) (live_next 0 first_stack_pointer ps a fit.0 live))
+    stand a (Byte (Some v)) e = (has.bytes a v e, start_fixed ps a (s.live a (Byte (Some v)) e))
     stand a (Word None) e = tt
     stand a (Byte None) e = tt
 
@@ -106,3 +105,49 @@ start_outputs c lo hi m f none h = record {
 
 pub loaded_outputs : (code globals : List ℕ) → loaded code globals outputs_start ≡ 0
 loaded_outputs code globals = refl
+
+-- the scene at the start
+pub starts : (code globals : List ℕ) (readings : List Reading) (hi : ℕ) (f : Cells) → AreWords (slice_index code)
+    → AreWords (slice_index globals) → hi ≤ code_end
+    → Shape 0 first_stack_pointer (λ k. 0) f → HasValues f (loaded code globals) → StartsAs (loaded code globals) readings hi f
+starts code globals readings hi f wc wg top s has =
+    let m : ℕ → ℕ = loaded code globals in
+    let facts : Facts m code_start hi f m is_fixed = start_facts m code_start hi m (λ k. 0) f s
+    (record { at = λ a e l k. refl }) (loaded_words code globals wc wg) has in
+    record {
+      scene = record {
+        code = m;
+        lo = code_start;
+        hi = hi;
+        segment = 0;
+        sp = first_stack_pointer;
+        pointers = λ k. 0;
+        cells = with_outputs [] f;
+        regs = start_registers;
+        memory = m;
+        settled = is_fixed;
+        marks = 0;
+        left = readings;
+        meter = record { ticks = 0; entries = 0; commits = 0; length = 0; period = 0 };
+      };
+      is = refl;
+      stands = record {
+        ground = record {
+          low = omega arith;
+          high = top;
+          base = omega arith;
+          top = omega arith;
+          last = omega arith;
+          even =
+              refl;
+        };
+        shape = outputs_shape 0 first_stack_pointer (λ k. 0) [] f s;
+        facts = start_outputs m code_start hi m f (loaded_outputs code globals) facts;
+        words = start_words;
+        stack = refl;
+      };
+      code = refl;
+      low = refl;
+      high = refl;
+      cells = refl;
+    }

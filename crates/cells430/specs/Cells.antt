@@ -53,7 +53,7 @@ pub record Shape (segment sp : ℕ) (pointers : ℕ → ℕ) (f : Cells) : Type 
 
 -- ---- what stands
 
--- m has the words of c from lo to hi
+-- m has the words of c at the even addresses from lo to hi
 pub record HasCode (c : ℕ → ℕ) (lo hi : ℕ) (m : ℕ → ℕ) : Type 0 where
   pub at : (a : ℕ) → a % 2 ≡ 0 → lo ≤ a → a < hi → m a ≡ c a
 
@@ -63,6 +63,11 @@ pub record Facts (c : ℕ → ℕ) (lo hi : ℕ) (f : Cells) (m : ℕ → ℕ) (
   pub stands : (a : ℕ) (x : Cell) → f a ≡ Some x → CellAt m settled a x
   pub lasting : (b : ℕ) → is_fixed b ≡ true → settled b ≡ true
   pub words : AreWords m
+
+-- memory has the values of the defined cells
+pub record HasValues (f : Cells) (m : ℕ → ℕ) : Type 0 where
+  pub words : (a w : ℕ) → f a ≡ Some (Word (Some w)) → m a ≡ w
+  pub bytes : (a v : ℕ) → f a ≡ Some (Byte (Some v)) → byte_at m a ≡ v
 
 -- ---- cells that go with a frame or a segment
 

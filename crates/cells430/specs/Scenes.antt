@@ -1,6 +1,6 @@
 -- Where a run stands outside a block: registers, memory and cells. What a step comes to is said of it.
-use Rattle.std.specs.Prelude.{◌≡◌, ◌≤◌, ℕ, ◌+◌, ◌*◌, ◌%◌, false, List}
-use Rattle.base16.specs.Board.{most_frame_bytes}
+use Rattle.std.specs.Prelude.{◌≡◌, ◌≤◌, ℕ, ◌+◌, ◌*◌, ◌%◌, false, List, []}
+use Rattle.base16.specs.Board.{most_frame_bytes, code_start}
 use Rattle.base16.specs.declared.reading.Reading.{Reading}
 use Rattle.isa430.specs.declared.instr.OneOp.TheVariants.{Call}
 use Rattle.isa430.specs.declared.instr.Src.TheVariants.{Immediate}
@@ -11,9 +11,10 @@ use Rattle.run430.specs.Code.{Here}
 use Rattle.run430.specs.Routine.{IsKept}
 use Rattle.ideal430.specs.Settled.{Bytes}
 use Rattle.ideal430.specs.Ideal.{Ideal, Meter}
+use Rattle.ideal430.specs.Loaded.{start_of}
 use Rattle.ideal430.specs.declared.state.IdealEnd.{IdealEnd}
 use Rattle.ideal430.specs.declared.state.IdealEnd.TheVariants.{Running}
-use Rattle.cells430.specs.Cells.{Cells, Shape, Facts}
+use Rattle.cells430.specs.Cells.{Cells, Shape, Facts, with_outputs}
 use Rattle.cells430.specs.Stretch.{outside, at, Ground, Comes, reached_regs, behind}
 
 pub record Scene : Type 0 where
@@ -89,3 +90,13 @@ frame_end x = x.sp + x.regs 15
 -- the registers once this return word is taken from an address
 abbrev pub returned_to : Scene → (word address : ℕ) → (ℕ → ℕ)
 returned_to x word address = set_reg (set_reg (behind x.regs) 0 word) 1 (address + 2)
+
+-- the start of a loaded memory stands, with these cells and no outputs
+pub record StartsAs (m : ℕ → ℕ) (readings : List Reading) (hi : ℕ) (f : Cells) : Type 0 where
+  pub scene : Scene
+  pub is : machine scene ≡ start_of m readings
+  pub stands : Stands scene
+  pub code : scene.code ≡ m
+  pub low : scene.lo ≡ code_start
+  pub high : scene.hi ≡ hi
+  pub cells : scene.cells ≡ with_outputs [] f

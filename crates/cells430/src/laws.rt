@@ -1,10 +1,11 @@
-ghost use Rattle.std.specs.Prelude.{◌≡◌, ◌<◌, ◌≤◌, ◌+◌, ◌-◌, ◌*◌, ◌%◌, ◌&&◌, ℕ, List, ◌∷◌, length, Option, Some, None, true, false, nat_eq};
-ghost use Rattle.base16.specs.Board.{outputs_start, segment_start, segment_top};
+ghost use Rattle.std.specs.Prelude.{◌≡◌, ◌<◌, ◌≤◌, ◌+◌, ◌-◌, ◌*◌, ◌%◌, ◌&&◌, ℕ, List, ◌∷◌, length, Option, Some, None, true, false, nat_eq, slice_index};
+ghost use Rattle.base16.specs.Board.{outputs_start, segment_start, segment_top, first_stack_pointer, code_end};
 ghost use Rattle.base16.specs.declared.reading.Reading.{Reading};
 ghost use Rattle.base16.specs.declared.reading.Reading.TheVariants as ReadingName;
 ghost use Rattle.base16.specs.declared.end.EndKind.TheVariants.{Done, OutputFull, StackFull};
 ghost use Rattle.isa430.specs.Table.{WordsAt};
 ghost use Rattle.core430.specs.Registers.{set_reg};
+ghost use Rattle.core430.specs.Uses.{AreWords};
 ghost use Rattle.rt430.specs.declared.words.Helper.{Helper};
 ghost use Rattle.rt430.specs.Operators.{value as value_of, HasValue};
 ghost use Rattle.rt430.specs.Routines.{Computes, kept_by};
@@ -12,15 +13,25 @@ ghost use Rattle.ideal430.specs.Places.{may_store};
 ghost use Rattle.ideal430.specs.Service.{is_linked, link_address};
 ghost use Rattle.ideal430.specs.At.{sensed_value};
 ghost use Rattle.ideal430.specs.Ideal.{Ideal, run};
+ghost use Rattle.ideal430.specs.Loaded.{loaded};
 ghost use Rattle.ideal430.specs.declared.state.IdealEnd.TheVariants.{Running, Ended, NeedsReading};
-ghost use Rattle.cells430.specs.Cells.{Word, Byte, set_cell, dropped, unlinked};
+ghost use Rattle.cells430.specs.Cells.{Word, Byte, Cells, Shape, HasValues, set_cell, dropped, unlinked};
 ghost use Rattle.cells430.specs.Stretch.{outside, Comes, behind, IdealRuns, IsProper, Leads};
-ghost use Rattle.cells430.specs.Scenes.{Scene, machine, Stands, AtCall, AtService, Marks, MarksHere, StopsAt, IsBack, HasFrame, frame_end, returned_to};
+ghost use Rattle.cells430.specs.Scenes.{Scene, machine, Stands, AtCall, AtService, Marks, MarksHere, StopsAt, IsBack, HasFrame, frame_end, returned_to, StartsAs};
 
 /// A stretch is a run, each step of which is as it has to be: it goes on, uses settled bytes alone and writes to the
 /// working segment alone.
 pub fn stretches_are_runs()
     ensures { (n : ℕ) → (t u : Ideal) → IdealRuns n t u → (run n t ≡ u) × IsProper n t }
+{}
+
+/// An image of words of 16 bits starts with the code as it was loaded and no outputs, and with any cells of the data that
+/// memory has the values of.
+pub fn start_by_cells()
+    ensures { (code globals : List ℕ) → (readings : List Reading) → (hi : ℕ) → (f : Cells)
+        → AreWords (slice_index code) → AreWords (slice_index globals) → hi ≤ code_end
+        → Shape 0 first_stack_pointer (λ k. 0) f → HasValues f (loaded code globals)
+        → StartsAs (loaded code globals) readings hi f }
 {}
 
 /// What each service comes to by cells that makes no frame: a turn, a checkpoint, a word and a byte stored, a sensor's

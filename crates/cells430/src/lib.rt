@@ -3,4 +3,6 @@
 
 mod laws;
 
-pub use laws::{frames_by_cells, routines_by_cells, services_by_cells, stretches_are_runs};
+pub use laws::{
+    frames_by_cells, routines_by_cells, services_by_cells, start_by_cells, stretches_are_runs,
+};
