@@ -132,7 +132,7 @@ starts code globals readings hi f wc wg top s has =
       };
       is = refl;
       stands = record {
-        ground = record {
+        grounded = record {
           low = omega arith;
           high = top;
           base = omega arith;

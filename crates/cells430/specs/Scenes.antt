@@ -38,7 +38,7 @@ machine x = at x.segment x.pointers x.regs x.memory x.settled (outside x.marks x
 
 -- it is as rules ask
 pub record Stands (x : Scene) : Type 0 where
-  pub ground : Ground x.lo x.hi x.segment x.sp
+  pub grounded : Ground x.lo x.hi x.segment x.sp
   pub shape : Shape x.segment x.sp x.pointers x.cells
   pub facts : Facts x.code x.lo x.hi x.cells x.memory x.settled
   pub words : AreWords x.regs

@@ -9,7 +9,7 @@ use Rattle.cells430.proofs.laws.routines_by_cells.Goals as goal
 
 pub returns : goal.returns
 returns c = λ which ws does x base h here even low high words room has.
-    calls_routine x.code x.lo x.hi x.segment x.sp x.pointers h.ground room x.cells h.shape which ws does base even low high
+    calls_routine x.code x.lo x.hi x.segment x.sp x.pointers h.grounded room x.cells h.shape which ws does base even low high
     words x.regs x.memory x.settled (outside x.marks x.left) x.meter (x.regs 12)
     (x.regs 13) h.facts h.words here h.stack refl refl has
     0 (IsBack x (value which (x.regs 12) (x.regs 13)) (kept_by which))
