@@ -1,4 +1,5 @@
 pub mod CellsMatch
+pub mod Even
 mod Example
 pub mod Finding
 pub mod Lying

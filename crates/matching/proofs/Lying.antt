@@ -11,7 +11,8 @@ use Rattle.c_values.specs.declared.state.Object.{Object}
 use Rattle.c_values.specs.declared.state.Saved.{Saved}
 use Rattle.core_layout.specs.Frames.{IsApart, LieApart, PlacedFramesLieApart}
 use Rattle.core_layout.specs.Laws.{end_of, Rise, SlotsFit, SlotsRise}
-use Rattle.core_tree.specs.Data.{global_address, global_layout, global_layouts}
+use Rattle.core_tree.specs.Data.{global_address, global_layout, global_layouts, stamps_start}
+use Rattle.core_layout.specs.Variables.{StampsLie}
 use Rattle.core_tree.specs.Heights.{frame_bytes, local_offset, object_layouts}
 use Rattle.core_tree.specs.Layout.{Layout, layout, layouts, layout_in, size_of, aligned, nothing, with_member, with_members, start_of}
 use Rattle.core_tree.specs.LawfulCore.{Every}
@@ -21,7 +22,7 @@ use Rattle.core_tree.specs.declared.program.Global.{Global}
 use Rattle.core_tree.specs.declared.types.Slot.{Slot}
 use Rattle.core_tree.specs.declared.types.Struct.{Struct}
 use Rattle.core_tree.specs.declared.types.Ty.{Ty}
-use Rattle.matching.specs.Laid.{slot_of, slots_in, EndsBefore, AreApart, AreLaid, AreMade, CallIsMade, CallsAreMade, bytes_by, bytes_of, IsMade}
+use Rattle.matching.specs.Laid.{slot_of, slots_in, EndsBefore, AreApart, AreLaid, AreMade, CallIsMade, CallsAreMade, bytes_by, bytes_of, IsMade, LiesIn}
 use Rattle.matching.specs.Matches.{Placed, placed_from, offset_in, local_address, placed_in_calls, placed}
 
 -- ---- each of a list
@@ -190,11 +191,11 @@ row_end ls =
     ap (λ (k : Layout). aligned k.even (with_members nothing (take n ls)).size) none
     ∙ ap (λ (ks : List Layout). (with_members nothing ks).size) all
 
-at_split : (f : Ty → Layout) (before ts : List Ty) (t : Ty) → get_or (map f (before ++ t ∷ ts)) (length before) nothing ≡ f t
+pub at_split : (f : Ty → Layout) (before ts : List Ty) (t : Ty) → get_or (map f (before ++ t ∷ ts)) (length before) nothing ≡ f t
 at_split f [] ts t = refl
 at_split f (b ∷ before) ts t = at_split f before ts t
 
-inside : (f : Ty → Layout) (before ts : List Ty) (t : Ty) → length before < length (map f (before ++ t ∷ ts))
+pub inside : (f : Ty → Layout) (before ts : List Ty) (t : Ty) → length before < length (map f (before ++ t ∷ ts))
 inside f [] ts t = let long : length (map f (t ∷ ts)) ≡ suc (length (map f ts)) = refl in omega arith
 inside f (b ∷ before) ts t =
     let long : length (map f (b ∷ (before ++ t ∷ ts))) ≡ suc (length (map f (before ++ t ∷ ts))) = refl in
@@ -223,10 +224,11 @@ ascends structs base all before (t ∷ ts) i e n =
 
 -- ---- variables
 
-abbrev types_of : List Global → List Ty
+abbrev pub types_of : List Global → List Ty
 types_of gs = map (λ (g : Global). g.ty) gs
 
-row_of_types : (core : Core) (gs : List Global) → map (layout_in (layouts core.structs)) (types_of gs) ≡ global_layouts core gs
+pub row_of_types : (core : Core) (gs : List Global) → map (layout_in (layouts core.structs)) (types_of gs) ≡ global_layouts
+    core gs
 row_of_types core [] = refl
 row_of_types core (g ∷ gs) = ap (λ (ls : List Layout). global_layout core g ∷ ls) (row_of_types core gs)
 
@@ -241,7 +243,7 @@ first_variable : (core : Core) → data_start ≤ global_address core 0
 unfolding global_address
 first_variable core = omega arith
 
-slots_of_types : (structs : List Struct) (gs : List Global) → map (slots_of structs) gs ≡ map
+pub slots_of_types : (structs : List Struct) (gs : List Global) → map (slots_of structs) gs ≡ map
     (λ (t : Ty). (layout structs t).slots) (types_of gs)
 slots_of_types structs [] = refl
 slots_of_types structs (g ∷ gs) = ap (λ (xs : List (List Slot)). slots_of structs g ∷ xs) (slots_of_types structs gs)
@@ -383,3 +385,27 @@ module _ (core : Core) (fit : (t : Ty) → SlotsFit core.structs t) (rise : (t :
       (each (Lies 0 (length core.globals) data_start end) (λ p. Every (AreApart p) qs) ps
       (λ p l. apart_from 0 (length core.globals) data_start end (length core.globals) next 0 stack_end p qs (omega arith)
       (inr (omega arith)) l locals.lie) variables.lie)
+
+  -- ---- where they lie
+
+  pub variables_lie : StampsLie core → (next : ℕ) (s : Saved) → IsMade core next s
+      → Every (LiesIn data_start (stamps_start core)) (placed_from (global_address core) 0 s.globals)
+  variables_lie stamps next s h =
+      let end = global_address core (length core.globals) in
+      let behind = stamps.behind in
+      each (Lies 0 (length core.globals) data_start end) (LiesIn data_start (stamps_start core))
+      (placed_from (global_address core) 0 s.globals)
+      (λ p l. record { from = l.from_address; to = ends_before end (stamps_start core) p behind l.to_address })
+      (globals_group s.globals h.globals).lie
+
+  call_lies : (low : ℕ) (c : Call) → CallIsMade core low c
+      → Every (LiesIn c.frame (c.frame + bytes_of core c)) (placed_from (local_address core c) 0 c.locals)
+  call_lies low c h =
+      each (Lies h.first (h.first + length c.locals) c.frame (c.frame + bytes_of core c))
+      (LiesIn c.frame (c.frame + bytes_of core c)) (placed_from (local_address core c) 0 c.locals)
+      (λ p l. record { from = l.from_address; to = l.to_address }) (call_group low c h).lie
+
+  pub locals_lie : (low next : ℕ) (cs : List Call) → CallsAreMade core low next cs
+      → Every (λ c. Every (LiesIn c.frame (c.frame + bytes_of core c)) (placed_from (local_address core c) 0 c.locals)) cs
+  locals_lie low next [] h = tt
+  locals_lie low next (c ∷ cs) h = (call_lies low c h.0, locals_lie (h.0.first + length c.locals) next cs h.1)

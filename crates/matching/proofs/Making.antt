@@ -186,14 +186,14 @@ calls_push core low next (d ∷ cs) c f is locals h =
     (h.0, calls_push core (h.0.first + length d.locals) next cs c f is locals h.1)
 
 -- the first of more frames has a place, and so do those after it
-record Split (sp x : ℕ) (xs ys : List ℕ) : Type 0 where
-  at : ℕ
-  rest : List ℕ
-  first : frame_below sp x ≡ Some at
-  others : placed_from at xs ≡ Some rest
-  all : ys ≡ at ∷ rest
+pub record Split (sp x : ℕ) (xs ys : List ℕ) : Type 0 where
+  pub at : ℕ
+  pub rest : List ℕ
+  pub first : frame_below sp x ≡ Some at
+  pub others : placed_from at xs ≡ Some rest
+  pub all : ys ≡ at ∷ rest
 
-split : (sp x : ℕ) (xs ys : List ℕ) → placed_from sp (x ∷ xs) ≡ Some ys → Split sp x xs ys
+pub split : (sp x : ℕ) (xs ys : List ℕ) → placed_from sp (x ∷ xs) ≡ Some ys → Split sp x xs ys
 split sp x xs ys e = by (frame_below sp x) refl e
   where
     behind : (at : ℕ) (p : Option (List ℕ)) → frame_below sp x ≡ Some at → placed_from at xs ≡ p

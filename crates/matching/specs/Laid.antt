@@ -1,5 +1,5 @@
 -- Where the objects of a state lie: objects that come to life as a program's run makes them share no byte.
-use Rattle.std.specs.Prelude.{◌≡◌, ℕ, ◌+◌, ◌≤◌, ◌⊎◌, List, [], ◌∷◌, map, length, slice_get, Option, Some, None}
+use Rattle.std.specs.Prelude.{◌≡◌, ℕ, ◌+◌, ◌%◌, ◌≤◌, ◌⊎◌, List, [], ◌∷◌, map, length, slice_get, Option, Some, None}
 use Rattle.base16.specs.Placement.{place}
 use Rattle.base16.specs.declared.image.Kind.{Kind}
 use Rattle.c_meaning.specs.After.{objects_of}
@@ -8,7 +8,7 @@ use Rattle.c_values.specs.declared.state.Call.{Call}
 use Rattle.c_values.specs.declared.state.Object.{Object}
 use Rattle.c_values.specs.declared.state.Saved.{Saved}
 use Rattle.c_values.specs.declared.value.Cell.{Cell as Scalar}
-use Rattle.core_layout.specs.Laws.{end_of, Rise}
+use Rattle.core_layout.specs.Laws.{width, end_of, Rise}
 use Rattle.core_tree.specs.Heights.{frame_bytes}
 use Rattle.core_tree.specs.LawfulCore.{Every}
 use Rattle.core_tree.specs.declared.program.Core.{Core}
@@ -39,6 +39,15 @@ pub record AreApart (p q : Placed) : Type 0 where
 abbrev pub AreLaid : List Placed → Type 0
 AreLaid [] = Unit {0}
 AreLaid (p ∷ more) = Rise (slots_in p) × Every (AreApart p) more × AreLaid more
+
+-- an object lies between two addresses
+pub record LiesIn (low high : ℕ) (p : Placed) : Type 0 where
+  pub from : low ≤ p.address
+  pub to : EndsBefore high p
+
+-- each scalar of two bytes stands at an even address
+abbrev pub IsAligned : Placed → Type 0
+IsAligned p = Every (λ s. width s.kind ≡ 2 → (p.address + s.offset) % 2 ≡ 0) (slots_in p)
 
 -- a scalar of a kind stands at an offset
 abbrev pub HasScalar : (offset : ℕ) → Kind → List Scalar → Type 0

@@ -1,6 +1,7 @@
 -- What holds of matching words: statements, which the laws of the crate show.
 use Rattle.std.specs.Prelude.{◌≡◌, ℕ, ◌+◌, length, slice_get, Some, Ok}
 use Rattle.base16.specs.declared.image.Kind.{Kind}
+use Rattle.base16.specs.Board.{data_start}
 use Rattle.base16.specs.Placement.{frame_below}
 use Rattle.c_meaning.specs.After.{start, objects_of}
 use Rattle.c_run.specs.Actions.{kept, top_of, with_call, left_call}
@@ -12,6 +13,7 @@ use Rattle.c_values.specs.declared.state.State.{State}
 use Rattle.c_values.specs.declared.value.Value.{Value}
 use Rattle.cells430.specs.Cells.{Cells, Shape, Facts, set_cell}
 use Rattle.core430.specs.Uses.{IsWithin}
+use Rattle.core_tree.specs.Data.{global_address, stamps_start}
 use Rattle.core_tree.specs.Heights.{frame_bytes}
 use Rattle.core_tree.specs.LawfulCore.{Every}
 use Rattle.core_tree.specs.declared.program.Core.{Core}
@@ -21,8 +23,8 @@ use Rattle.ideal430.specs.Ideal.{Ideal}
 use Rattle.ideal430.specs.Service.{Block}
 use Rattle.ideal430.specs.Settled.{Bytes}
 use Rattle.matching.specs.Covering.{cell_of, Covered, IsCovered, Apart}
-use Rattle.matching.specs.Laid.{AreLaid, IsMade}
-use Rattle.matching.specs.Matches.{address_of, encoded, placed, WordsAre, Matches}
+use Rattle.matching.specs.Laid.{AreLaid, IsAligned, IsMade, LiesIn, bytes_of}
+use Rattle.matching.specs.Matches.{address_of, encoded, placed, WordsAre, Matches, placed_from, local_address}
 use Rattle.matching.specs.Said.{said}
 use Rattle.matching.specs.Simulates.{MachineMatches}
 
@@ -47,6 +49,19 @@ StoreSetsCell core s f n address offset v k =
 -- no two objects of a state that a run makes share a byte
 abbrev pub SharesNoByte : Core → (next : ℕ) → Saved → Type 0
 SharesNoByte core next s = IsMade core next s → AreLaid (placed core s)
+
+-- the variables lie in the data, before the stamps
+abbrev pub VariablesLieInData : Core → (next : ℕ) → Saved → Type 0
+VariablesLieInData core next s =
+    IsMade core next s → Every (LiesIn data_start (stamps_start core)) (placed_from (global_address core) 0 s.globals)
+
+-- the objects of each call lie in its frame
+abbrev pub LocalsLieInFrames : Core → (next : ℕ) → Saved → Type 0
+LocalsLieInFrames core next s = IsMade core next s
+    → Every (λ c. Every (LiesIn c.frame (c.frame + bytes_of core c)) (placed_from (local_address core c) 0 c.locals)) s.calls
+
+abbrev pub WordsAreAligned : Core → (next : ℕ) → Saved → Type 0
+WordsAreAligned core next s = IsMade core next s → Every IsAligned (placed core s)
 
 -- the object n is alive and has an address, and no other scalar stands where the one at an offset of it does
 pub record StandsAlone (core : Core) (s : State) (n offset : ℕ) (k : Kind) : Type 0 where

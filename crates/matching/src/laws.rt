@@ -7,9 +7,11 @@ ghost use Rattle.cells430.specs.Cells.{Cells};
 ghost use Rattle.core_tree.specs.declared.program.Core.{Core};
 ghost use Rattle.ideal430.specs.Ideal.{Ideal};
 ghost use Rattle.core_tree.specs.declared.program.Function.{Function};
-ghost use Rattle.matching.specs.Laws.{AccessedStandsAlone, CellsMatch, ClearedIsMade, EnteredIsMade, LeftIsMade, MatchesAlong, SharesNoByte, StartIsMade, StoredIsMade, StoreSetsCell};
+ghost use Rattle.matching.specs.Laws.{AccessedStandsAlone, CellsMatch, ClearedIsMade, EnteredIsMade, LeftIsMade, LocalsLieInFrames, MatchesAlong, SharesNoByte, StartIsMade, StoredIsMade, StoreSetsCell, VariablesLieInData, WordsAreAligned};
 
-use core_layout::{frames_lie_apart, scalars_fit, scalars_rise};
+use core_layout::{
+    frames_lie_apart, scalars_are_aligned, scalars_fit, scalars_rise, stamps_lie_behind,
+};
 
 /// Where the words of the machine match a state by settled bytes alone, so does every memory that goes along with the machine.
 pub fn settled_bytes_match()
@@ -35,6 +37,23 @@ pub fn objects_share_no_byte()
     scalars_fit();
     scalars_rise();
     frames_lie_apart();
+}
+
+/// The variables lie in the data before the stamps, and the objects of a call in its frame.
+pub fn objects_lie_in_their_parts()
+    ensures variables { (core : Core) → (next : ℕ) → (s : Saved) → VariablesLieInData core next s }
+    ensures locals { (core : Core) → (next : ℕ) → (s : Saved) → LocalsLieInFrames core next s }
+{
+    scalars_fit();
+    scalars_rise();
+    stamps_lie_behind();
+}
+
+/// A scalar of two bytes stands at an even address.
+pub fn words_are_aligned()
+    ensures { (core : Core) → (next : ℕ) → (s : Saved) → WordsAreAligned core next s }
+{
+    scalars_are_aligned();
 }
 
 /// A scalar that is accessed stands at the address of its object, and no other scalar stands there.
