@@ -33,23 +33,27 @@ given-one n registers registers2 m m2 work work2 w w2 answer before s e =
     let one : length taken ≤ 1 = one-taken (ask_found n registers m work) s.value in
     omega arith
 
-pub recorded : (scalars : List Scalar) (n here : ℕ) (registers registers2 : List ℕ) (work work2 : Work) (records records1 records2 : List Record)
+pub recorded : (scalars : List Scalar) (n here : ℕ) (registers registers2 : List ℕ) (work work2 : Work)
+    (records records1 records2 : List Record)
     (f f2 : Contents) (w w2 : WorldState) (instrs instrs2 before : ℕ) (result : Turn) (answer : Served) (c : Option Committed)
     → Serves n registers (words_of f.words) work w answer registers2 (words_of f2.words) work2 w2 → turn_of answer ≡ result
     → committed_in answer ≡ c → before ≡ length w.readings → records1 ≡ records ++ read_records (drop before w2.readings)
-    → records2 ≡ records1 ++ commit_records scalars c registers2 work2 here (words_of f2.words) → instrs2 ≡ instrs_after c instrs here
+    → records2 ≡ records1 ++ commit_records scalars c registers2 work2 here (words_of f2.words)
+    → instrs2 ≡ instrs_after c instrs here
     → length registers2 ≡ 16 → f2.poked ≡ f.poked
     → IsServed scalars n here registers work (now records f w) instrs result registers2 work2 (now records2 f2 w2) instrs2
-recorded scalars n here registers registers2 work work2 records records1 records2 f f2 w w2 instrs instrs2 before result answer c s t
-    ec eb r1 r2 i size poked =
+recorded scalars n here registers registers2 work work2 records records1 records2 f f2 w w2 instrs instrs2 before result answer c
+    s t ec eb r1 r2 i size poked =
     let taken = taken_of (ask_found n registers (words_of f.words) work) s.value in
     let given : drop before w2.readings ≡ taken = ap (drop before) s.passes.readings ∙ drop_at w.readings taken before (sym eb) in
     record {
       answer = answer;
       result_is = sym t;
       serves = s;
-      records_are = r2 ∙ ap (λ x. x ++ commit_records scalars c registers2 work2 here (words_of f2.words)) (r1 ∙ ap (λ x. records ++ read_records x) given)
-          ∙ ap (λ x. (records ++ read_records taken) ++ commit_records scalars x registers2 work2 here (words_of f2.words)) (sym ec);
+      records_are = r2 ∙ ap (λ x. x ++ commit_records scalars c registers2 work2 here (words_of f2.words))
+          (r1 ∙ ap (λ x. records ++ read_records x) given)
+          ∙ ap (λ x. (records ++ read_records taken) ++ commit_records scalars x registers2 work2 here (words_of f2.words))
+          (sym ec);
       instrs_are = i ∙ ap (λ x. instrs_after x instrs here) (sym ec);
       sixteen = size;
       poked = poked;

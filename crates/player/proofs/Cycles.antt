@@ -195,7 +195,8 @@ behind-own OutputFull own status h = h
 behind-own (Wild address) own status h = h
 
 pub over : (o : Origin) (kind : EndKind) (records records2 : List Record) (f : Contents) (w : WorldState)
-    → Ends o kind (now records f w) → records2 ≡ records ++ End kind ∷ [] → Keeps o (IsOver kind) (IsBehind kind) (now records2 f w)
+    → Ends o kind (now records f w) → records2 ≡ records ++ End kind ∷ []
+    → Keeps o (IsOver kind) (IsBehind kind) (now records2 f w)
 over o kind records records2 f w h e =
     subst (λ x. Keeps o (IsOver kind) (IsBehind kind) (now x f w)) (sym e)
     (keeps-push o (IsInCycle o records) (IsOver kind) (IsBehind kind) records (End kind) f w w tt h.cause

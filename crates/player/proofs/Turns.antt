@@ -219,7 +219,9 @@ pub served-turned : (o : Origin) (instrs here n : ℕ) (registers registers1 reg
     → AtMostOnePut (gate work.segment) (words_of f.words) (words_of f1.words) → f1.poked ≡ f.poked → Spends 1 w w1
     → Calls n (record { regs = view_of registers1; memory = words_of f1.words })
     ≡ step (gate work.segment) (record { regs = view_of registers; memory = words_of f.words })
-    → AreInData o.scalars → IsServed o.scalars n (here + 1) registers1 work (now records f1 w1) instrs result registers2 work2 (now records2 f2 w2) instrs2
+    → AreInData o.scalars
+    → IsServed o.scalars n (here + 1) registers1 work (now records f1 w1) instrs result registers2 work2
+    (now records2 f2 w2) instrs2
     → Turned result o instrs2 (here + 1) registers2 work2 (now records2 f2 w2)
 served-turned o instrs here n registers registers1 registers2 work work2 records records2 f f1 f2 w w1 w2 instrs2 result g put
     poked spends e placed v =
@@ -339,12 +341,15 @@ served-turned o instrs here n registers registers1 registers2 work work2 records
         (stood_over kind c q start s)
 
     -- the story with a commit, and its readings
-    now_told : (c : Committed) → story_in o (behind ++ commit_records o.scalars (Some c) registers2 work2 (here + 1) (words_of f2.words))
+    now_told : (c : Committed)
+        → story_in o (behind ++ commit_records o.scalars (Some c) registers2 work2 (here + 1) (words_of f2.words))
         ≡ after (story_in o behind) (Commit work2.commits work2.marks (here + 1) (slice_index registers2 0)
         (slice_index registers2 1) c.words c.log (sets_behind o.scalars c.log (words_of f2.words)))
     now_told c = story-more o behind _ (keeps-passed o IsRunning records f f1 w mid rs still1 passed_mid k).added
 
-    so : (c : Committed) → readings_so_far (story_in o (behind ++ commit_records o.scalars (Some c) registers2 work2 (here + 1) (words_of f2.words)))
+    so : (c : Committed)
+        → readings_so_far (story_in o (behind ++ commit_records o.scalars (Some c) registers2 work2 (here + 1)
+        (words_of f2.words)))
         ≡ readings_so_far (story_in o behind)
     so c = ap readings_so_far (now_told c) ∙ append-nil (readings_so_far (story_in o behind))
 
@@ -371,8 +376,8 @@ served-turned o instrs here n registers registers1 registers2 work work2 records
     led : (c : Committed) → committed_in v.answer ≡ Some c
         → Leads o.scalars (story_in o behind).last.display (sets_behind o.scalars c.log (words_of f2.words)) (kept_in f2).memory
     led c q =
-        leads o.scalars (story_in o behind).last.display c.log (words_of f1.words) (words_of f2.words) registers2 work2 w1 w2 placed
-        is_written.well_formed
+        leads o.scalars (story_in o behind).last.display c.log (words_of f1.words) (words_of f2.words) registers2 work2 w1 w2
+        placed is_written.well_formed
         (subst (λ x. IfSome x (λ a. Tells a.log (words_of f1.words) (words_of f2.words))) q v.serves.tells) (committed c q)
         (keeps-passed o IsRunning records f f1 w mid rs still1 passed_mid k).shown
 
@@ -427,11 +432,12 @@ served-turned o instrs here n registers registers1 registers2 work work2 records
         record {
           keeps = keeps_committed IsAny (Ended kind) c tt (ap committed_in q) st (stood_over kind (Some c) q);
           own = answer.own kind (Some c) q;
-          cause = cause o (story_in o (behind ++ commit_records o.scalars (Some c) registers2 work2 (here + 1) (words_of f2.words))) kind (record {
-            instrs = here + 1;
-            ended = λ start s. subst (λ r. Claim start r (here + 1) (λ t. t.status ≡ Ended kind)) (sym (so c))
-                (ended_over kind (Some c) q start s);
-          });
+          cause = cause o (story_in o (behind ++ commit_records o.scalars (Some c) registers2 work2 (here + 1)
+              (words_of f2.words))) kind (record {
+                instrs = here + 1;
+                ended = λ start s. subst (λ r. Claim start r (here + 1) (λ t. t.status ≡ Ended kind)) (sym (so c))
+                    (ended_over kind (Some c) q start s);
+              });
         }
     by (served.Done None) q =
         let st : IsStepped work work2 w2.spent None = subst (λ a. OnPower a (IsStepped work work2 w2.spent (committed_in a))) q

@@ -74,7 +74,8 @@ fn called<W: World>(
     requires index { IsIndexOf symbols.now.scalars index.now }
     requires empty { room.old.items ≡ [] }
     requires sets { 1281 ≤ vec_capacity room.old }
-    ensures served { IsServed symbols.now.scalars n here regs.old.r work.old (now records.old.items fram.old (W.state world.old)) instrs.old
+    ensures served { IsServed symbols.now.scalars n here regs.old.r work.old
+        (now records.old.items fram.old (W.state world.old)) instrs.old
         result regs.new.r work.new (now records.new.items fram.new (W.state world.new)) instrs.new }
     ensures room { vec_len records.new < vec_capacity records.new }
     ensures empty { room.new.items ≡ [] }

@@ -16,7 +16,8 @@ record_reading-requires-clause-given g c =
 
 pub returns-in-Off-clause-served : goal.returns-in-Off-clause-served
 returns-in-Off-clause-served g c =
-    recorded c.args.symbols.now.scalars c.args.n c.args.here c.args.regs.now.r c.serve-served.new.regs.r c.args.work.now c.serve-served.new.work
+    recorded c.args.symbols.now.scalars c.args.n c.args.here c.args.regs.now.r c.serve-served.new.regs.r c.args.work.now
+    c.serve-served.new.work
     c.args.records.now.items c.record_reading.new.records.items c.record_reading.new.records.items c.args.fram.now
     c.serve-served.new.fram (g.W.World.state c.args.world.now) (g.W.World.state c.serve-served.new.world) c.args.instrs.now
     c.args.instrs.now c.given-before.result _ c.serve-served.result None c.serve-served.ensures.served (ap turn_of c.in-Off.is)
@@ -25,7 +26,8 @@ returns-in-Off-clause-served g c =
 
 pub returns-in-Done-clause-served : goal.returns-in-Done-clause-served
 returns-in-Done-clause-served g c =
-    recorded c.args.symbols.now.scalars c.args.n c.args.here c.args.regs.now.r c.serve-served.new.regs.r c.args.work.now c.serve-served.new.work
+    recorded c.args.symbols.now.scalars c.args.n c.args.here c.args.regs.now.r c.serve-served.new.regs.r c.args.work.now
+    c.serve-served.new.work
     c.args.records.now.items c.record_reading.new.records.items c.record_commit.new.records.items c.args.fram.now
     c.serve-served.new.fram (g.W.World.state c.args.world.now) (g.W.World.state c.serve-served.new.world) c.args.instrs.now
     c.record_commit.new.instrs c.given-before.result _ c.serve-served.result c.in-Done.committed c.serve-served.ensures.served
@@ -34,7 +36,8 @@ returns-in-Done-clause-served g c =
 
 pub returns-in-End-clause-served : goal.returns-in-End-clause-served
 returns-in-End-clause-served g c =
-    recorded c.args.symbols.now.scalars c.args.n c.args.here c.args.regs.now.r c.serve-served.new.regs.r c.args.work.now c.serve-served.new.work
+    recorded c.args.symbols.now.scalars c.args.n c.args.here c.args.regs.now.r c.serve-served.new.regs.r c.args.work.now
+    c.serve-served.new.work
     c.args.records.now.items c.record_reading.new.records.items c.record_commit-in-End.new.records.items c.args.fram.now
     c.serve-served.new.fram (g.W.World.state c.args.world.now) (g.W.World.state c.serve-served.new.world) c.args.instrs.now
     c.record_commit-in-End.new.instrs c.given-before.result _ c.serve-served.result c.in-End.committed
