@@ -7,7 +7,7 @@ use board_map::well_formed;
 use fram::Fram;
 use std::process::Abort;
 use std::test::Fail;
-use world::{History, Record, TraceWorld, parse_trace};
+use world::{History, Record, Shown, Trace, TraceWorld, parse_trace};
 
 /// A board with these code words, as a load leaves it.
 fn board<R: Abort + AllocGlobal>(rt: &R, code: &[u16]) -> Result<Fram, Fail> {
@@ -185,4 +185,78 @@ fn no_cycle_ends_for_want_of_power(rt: HostRuntime) -> Result<(), Fail> {
     assert_eq!(&rt; ended, EndKind::Power);
     assert_eq!(&rt; book.records.len(), 1);
     Ok(())
+}
+
+/// Enters main, stores 7 at 4000, emits 40, asks for a checkpoint, stores 8 at 4000, asks again and leaves main.
+const SHOWS: [u16; 32] = [
+    0x12b0, 0x8008, 0x12b0, 0xff00, 0x403f, 4, 0x12b0, 0xff02, 0x403d, 7, 0x403e, 0x4000, 0x12b0,
+    0xff08, 0x403d, 40, 0x12b0, 0xff12, 0x12b0, 0xff1c, 0x403d, 8, 0x403e, 0x4000, 0x12b0, 0xff08,
+    0x12b0, 0xff1c, 0x403f, 4, 0x12b0, 0xff04,
+];
+
+/// What the three commits of `SHOWS` change.
+const CHANGES: [&[Shown]; 3] = [
+    &[
+        Shown::Value { scalar: 0, word: 7 },
+        Shown::Outs { length: 1 },
+        Shown::Out { index: 0, word: 40 },
+    ],
+    &[Shown::Value { scalar: 0, word: 8 }],
+    &[],
+];
+
+/// Whether the commits of a history change just that.
+fn are_shown(records: &[Record], changes: &[&[Shown]; 3]) -> bool {
+    let mut commits = 0;
+    for entry in records {
+        if let Record::Commit { sets, .. } = entry {
+            if commits >= 3 || sets.as_slice() != changes[commits] {
+                return false;
+            }
+            commits += 1;
+        }
+    }
+    commits == 3
+}
+
+/// Plays `SHOWS` through a trace to its end, and looks at what its commits change.
+fn shows<R: Abort + AllocGlobal>(rt: &R, trace: Trace) -> Result<(), Fail> {
+    let mut fram = board(rt, &SHOWS)?;
+    let mut world = TraceWorld::new(rt.alloc(), trace)?;
+    let mut book = History::new(rt.alloc());
+    let ended = played(rt, &mut fram, &mut world, &mut book)?;
+    assert_eq!(rt; ended, EndKind::Done);
+    assert!(rt; are_shown(book.records.as_slice(), &CHANGES));
+    Ok(())
+}
+
+#[test]
+fn each_change_is_shown_once_wherever_power_fails(rt: HostRuntime) -> Result<(), Fail> {
+    let alloc = rt.alloc();
+    // in the boot, before the first commit, in it and behind it, in the second and in the third, and not at all
+    shows(
+        &rt,
+        parse_trace(alloc, b"tics-trace 1\ncycle 100 5\ncycle 2000 0\n")?,
+    )?;
+    shows(
+        &rt,
+        parse_trace(alloc, b"tics-trace 1\ncycle 140 5\ncycle 2000 0\n")?,
+    )?;
+    shows(
+        &rt,
+        parse_trace(alloc, b"tics-trace 1\ncycle 200 5\ncycle 2000 0\n")?,
+    )?;
+    shows(
+        &rt,
+        parse_trace(alloc, b"tics-trace 1\ncycle 311 5\ncycle 2000 0\n")?,
+    )?;
+    shows(
+        &rt,
+        parse_trace(alloc, b"tics-trace 1\ncycle 400 5\ncycle 2000 0\n")?,
+    )?;
+    shows(
+        &rt,
+        parse_trace(alloc, b"tics-trace 1\ncycle 550 5\ncycle 2000 0\n")?,
+    )?;
+    shows(&rt, parse_trace(alloc, b"tics-trace 1\ncycle 2000 0\n")?)
 }
