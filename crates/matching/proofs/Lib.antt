@@ -2,6 +2,7 @@ pub mod CellsMatch
 pub mod Even
 mod Example
 pub mod Finding
+pub mod Keeping
 pub mod Lying
 pub mod Making
 pub mod SameBytes

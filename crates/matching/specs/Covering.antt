@@ -1,10 +1,12 @@
 -- States as cells: where each scalar, stamp and output has its cell, cells that stand make the words match.
-use Rattle.std.specs.Prelude.{◌≡◌, ℕ, ◌+◌, ◌/◌, ◌%◌, Bool, true, false, List, [], ◌∷◌, length, Option, Some, None}
+use Rattle.std.specs.Prelude.{◌≡◌, ℕ, ◌<◌, ◌+◌, ◌/◌, ◌%◌, Bool, true, false, List, [], ◌∷◌, length, Option, Some, None}
 use Rattle.base16.specs.Board.{outputs_start}
 use Rattle.base16.specs.declared.image.Kind.{Kind}
 use Rattle.c_values.specs.Objects.{wide}
 use Rattle.c_values.specs.declared.state.Saved.{Saved}
 use Rattle.c_values.specs.declared.value.Cell.{Cell as Scalar}
+use Rattle.c_values.specs.declared.value.Value.{Value}
+use Rattle.c_values.specs.declared.value.Value.TheVariants.{Pointer}
 use Rattle.cells430.specs.Cells.{Cell, Word, Byte, Cells}
 use Rattle.core_tree.specs.Data.{stamp_address}
 use Rattle.core_tree.specs.LawfulCore.{Every}
@@ -51,6 +53,22 @@ pub record IsCovered (core : Core) (s : Saved) (f : Cells) : Type 0 where
   pub stamps : StampsCovered f core 0 s.stamps
   pub count : f outputs_start ≡ Some (Word (Some (length s.outputs)))
   pub outputs : WordsCovered f (outputs_start + 2) s.outputs
+
+-- each scalar of these objects has a cell of its width, whatever it holds
+abbrev pub HaveCells : Cells → List Placed → Type 0
+HaveCells f objects = Every (λ p. Every (λ c. HasCell f (p.address + c.offset) c.kind None) p.object.cells) objects
+
+-- two maps have the same cells for the scalars of these objects
+abbrev pub SameCells : (f g : Cells) → List Placed → Type 0
+SameCells f g objects = Every (λ p. Every (λ c. g (p.address + c.offset) ≡ f (p.address + c.offset)) p.object.cells) objects
+
+-- a pointer goes to one of so many objects that came to life
+abbrev pub PointsBelow : (next : ℕ) → Value → Type 0
+PointsBelow next (Pointer n offset) = n < next
+PointsBelow next _ = Unit {0}
+
+abbrev pub AllPointBelow : (next : ℕ) → List Placed → Type 0
+AllPointBelow next objects = Every (λ p. Every (λ c. PointsBelow next c.value) p.object.cells) objects
 
 -- ---- one scalar of one object
 

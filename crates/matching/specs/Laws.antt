@@ -8,6 +8,7 @@ use Rattle.c_run.specs.Actions.{kept, top_of, with_call, left_call}
 use Rattle.c_run.specs.Making.{fresh_objects}
 use Rattle.c_values.specs.Objects.{accessed, with_scalar, with_cleared}
 use Rattle.c_values.specs.Pointers.{at}
+use Rattle.c_values.specs.declared.state.Call.{Call}
 use Rattle.c_values.specs.declared.state.Saved.{Saved}
 use Rattle.c_values.specs.declared.state.State.{State}
 use Rattle.c_values.specs.declared.value.Value.{Value}
@@ -22,7 +23,7 @@ use Rattle.ideal430.specs.Agreement.{Agrees}
 use Rattle.ideal430.specs.Ideal.{Ideal}
 use Rattle.ideal430.specs.Service.{Block}
 use Rattle.ideal430.specs.Settled.{Bytes}
-use Rattle.matching.specs.Covering.{cell_of, Covered, IsCovered, Apart}
+use Rattle.matching.specs.Covering.{cell_of, Covered, IsCovered, Apart, HaveCells, SameCells, AllPointBelow}
 use Rattle.matching.specs.Laid.{AreLaid, IsAligned, IsMade, LiesIn, bytes_of}
 use Rattle.matching.specs.Matches.{address_of, encoded, placed, WordsAre, Matches, placed_from, local_address}
 use Rattle.matching.specs.Said.{said}
@@ -85,10 +86,14 @@ StoredIsMade core next s n offset v = IsMade core next (kept s) → IsMade core 
 abbrev pub ClearedIsMade : Core → (next : ℕ) → State → (n : ℕ) → Type 0
 ClearedIsMade core next s n = IsMade core next (kept s) → IsMade core next (kept (with_cleared n s))
 
--- a state with a call more, whose objects come to life
+-- a call whose objects come to life
+abbrev pub fresh_call : Core → (next function frame : ℕ) → Function → Call
+fresh_call core next function frame f =
+    record { function = function; frame = frame; locals = fresh_objects next (objects_of core.structs f) }
+
+-- a state with such a call more
 abbrev pub with_fresh : Core → (next function frame : ℕ) → Function → State → State
-with_fresh core next function frame f s =
-    with_call (record { function = function; frame = frame; locals = fresh_objects next (objects_of core.structs f) }) s
+with_fresh core next function frame f s = with_call (fresh_call core next function frame f) s
 
 abbrev pub EnteredIsMade : Core → (next : ℕ) → State → (function frame : ℕ) → Function → Type 0
 EnteredIsMade core next s function frame f = slice_get core.functions function ≡ Some f
@@ -97,3 +102,26 @@ EnteredIsMade core next s function frame f = slice_get core.functions function �
 
 abbrev pub LeftIsMade : Core → (next : ℕ) → State → Type 0
 LeftIsMade core next s = IsMade core next (kept s) → IsMade core next (kept (left_call s))
+
+-- ---- what a run does to cells
+
+-- the objects of a state have their cells
+abbrev pub HasCells : Core → State → Cells → Type 0
+HasCells core s f = Covered f (placed core (kept s)) (placed core (kept s))
+
+-- a declaration, the end of a call, and what is done to other cells take no cell away
+abbrev pub ClearedIsCovered : Core → State → Cells → (n : ℕ) → Type 0
+ClearedIsCovered core s f n = HasCells core s f → HasCells core (with_cleared n s) f
+
+abbrev pub LeftIsCovered : Core → State → Cells → Type 0
+LeftIsCovered core s f = HasCells core s f → HasCells core (left_call s) f
+
+abbrev pub ElsewhereIsCovered : Core → State → (f g : Cells) → Type 0
+ElsewhereIsCovered core s f g = SameCells f g (placed core (kept s)) → HasCells core s f → HasCells core s g
+
+-- where a function is entered, its objects have their cells if there is a cell for each of their scalars
+abbrev pub EnteredIsCovered : Core → (next : ℕ) → State → (function frame : ℕ) → Function → Cells → Type 0
+EnteredIsCovered core next s function frame f cells = AllPointBelow next (placed core (kept s)) → HasCells core s cells
+    → HaveCells cells (placed_from (local_address core (fresh_call core next function frame f)) 0
+    (fresh_objects next (objects_of core.structs f)))
+    → HasCells core (with_call (fresh_call core next function frame f) s) cells

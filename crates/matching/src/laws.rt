@@ -7,7 +7,7 @@ ghost use Rattle.cells430.specs.Cells.{Cells};
 ghost use Rattle.core_tree.specs.declared.program.Core.{Core};
 ghost use Rattle.ideal430.specs.Ideal.{Ideal};
 ghost use Rattle.core_tree.specs.declared.program.Function.{Function};
-ghost use Rattle.matching.specs.Laws.{AccessedStandsAlone, CellsMatch, ClearedIsMade, EnteredIsMade, LeftIsMade, LocalsLieInFrames, MatchesAlong, SharesNoByte, StartIsMade, StoredIsMade, StoreSetsCell, VariablesLieInData, WordsAreAligned};
+ghost use Rattle.matching.specs.Laws.{AccessedStandsAlone, CellsMatch, ClearedIsCovered, ClearedIsMade, ElsewhereIsCovered, EnteredIsCovered, EnteredIsMade, LeftIsCovered, LeftIsMade, LocalsLieInFrames, MatchesAlong, SharesNoByte, StartIsMade, StoreSetsCell, StoredIsMade, VariablesLieInData, WordsAreAligned};
 
 use core_layout::{
     frames_lie_apart, scalars_are_aligned, scalars_fit, scalars_rise, stamps_lie_behind,
@@ -73,4 +73,13 @@ pub fn runs_keep_objects_made()
     ensures call { (core : Core) → (next : ℕ) → (s : State) → (function frame : ℕ) → (f : Function)
         → EnteredIsMade core next s function frame f }
     ensures end { (core : Core) → (next : ℕ) → (s : State) → LeftIsMade core next s }
+{}
+
+/// What has its cells keeps them: after a declaration, a call and its end, and where other cells are changed.
+pub fn cells_stay_covering()
+    ensures declaration { (core : Core) → (s : State) → (f : Cells) → (n : ℕ) → ClearedIsCovered core s f n }
+    ensures call { (core : Core) → (next : ℕ) → (s : State) → (function frame : ℕ) → (f : Function) → (cells : Cells)
+        → EnteredIsCovered core next s function frame f cells }
+    ensures end { (core : Core) → (s : State) → (f : Cells) → LeftIsCovered core s f }
+    ensures elsewhere { (core : Core) → (s : State) → (f g : Cells) → ElsewhereIsCovered core s f g }
 {}
