@@ -54,7 +54,8 @@ only_kind o k (c ∷ cs) h (inr e) =
     let l = begins (end_of (slot_of c)) o k cs h.0 e in
     ((λ x. absurd (omega arith)), only_kind o k cs h.1 e)
 
-ends : (base high o : ℕ) (k : Kind) (cs : List Scalar) → Every (λ s. base + end_of s ≤ high) (map slot_of cs) → HasScalar o k cs
+pub ends : (base high o : ℕ) (k : Kind) (cs : List Scalar) → Every (λ s. base + end_of s ≤ high) (map slot_of cs)
+    → HasScalar o k cs
     → base + o < high
 ends base high o k [] h e = absurd e
 ends base high o k (c ∷ cs) h (inl e) = let w = width_some c.kind in let l = h.0 in let same = e.0 in omega arith

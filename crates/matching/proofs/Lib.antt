@@ -7,3 +7,4 @@ pub mod Lying
 pub mod Making
 pub mod SameBytes
 pub mod Storing
+pub mod Whole

@@ -299,3 +299,17 @@ left_made core next s h = record {
       ∙ placed_pop first_stack_pointer (map (bytes_of core) s.calls) (map (λ (c : Call). c.frame) s.calls) h.frames
       ∙ ap Some (sym (map_pop (λ (c : Call). c.frame) s.calls));
 }
+
+-- ---- objects that came to life besides
+
+calls_later : (core : Core) (low next later : ℕ) (cs : List Call) → next ≤ later → CallsAreMade core low next cs
+    → CallsAreMade core low later cs
+calls_later core low next later [] l h = omega arith
+calls_later core low next later (c ∷ cs) l h = (h.0, calls_later core (h.0.first + length c.locals) next later cs l h.1)
+
+pub later_made : (core : Core) (next later : ℕ) (s : Saved) → next ≤ later → IsMade core next s → IsMade core later s
+later_made core next later s l h = record {
+  globals = h.globals;
+  calls = calls_later core (length core.globals) next later s.calls l h.calls;
+  frames = h.frames;
+}

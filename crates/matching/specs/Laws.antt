@@ -1,7 +1,7 @@
 -- What holds of matching words: statements, which the laws of the crate show.
-use Rattle.std.specs.Prelude.{◌≡◌, ℕ, ◌+◌, length, slice_get, Some, Ok}
+use Rattle.std.specs.Prelude.{◌≡◌, ℕ, ◌+◌, length, slice_get, Some, Ok, ◌≤◌}
 use Rattle.base16.specs.declared.image.Kind.{Kind}
-use Rattle.base16.specs.Board.{data_start}
+use Rattle.base16.specs.Board.{data_start, most_outputs}
 use Rattle.base16.specs.Placement.{frame_below}
 use Rattle.c_meaning.specs.After.{start, objects_of}
 use Rattle.c_run.specs.Actions.{kept, top_of, with_call, left_call}
@@ -75,6 +75,14 @@ abbrev pub AccessedStandsAlone : Core → (next : ℕ) → State → (n offset :
 AccessedStandsAlone core next s n offset k v =
     IsMade core next (kept s) → accessed s (at n offset) k ≡ Ok v → StandsAlone core s n offset k
 
+-- Where a state has its cells, a store to a scalar that is accessed is one cell set, and keeps all others: scalars, stamps and
+-- outputs, of which no more stand than there is room for.
+abbrev pub StoreKeepsCovered : Core → (next : ℕ) → State → Cells → (n offset : ℕ) → Kind → (old v : Value) → Type 0
+StoreKeepsCovered core next s f n offset k old v = IsMade core next (kept s) → length s.outputs ≤ most_outputs
+    → IsCovered core (kept s) f → accessed s (at n offset) k ≡ Ok old
+    → (x : StandsAlone core s n offset k) × IsCovered core (kept (with_scalar n offset v s))
+    (set_cell f (x.address + offset) (cell_of k (encoded (placed core (kept s)) k v)))
+
 -- ---- what a run does to the objects of its state
 
 abbrev pub StartIsMade : Core → Type 0
@@ -99,6 +107,10 @@ abbrev pub EnteredIsMade : Core → (next : ℕ) → State → (function frame :
 EnteredIsMade core next s function frame f = slice_get core.functions function ≡ Some f
     → frame_below (top_of s) (frame_bytes core.structs f) ≡ Some frame → IsMade core next (kept s)
     → IsMade core (next + length (objects_of core.structs f)) (kept (with_fresh core next function frame f s))
+
+-- objects that came to life besides change nothing
+abbrev pub LaterIsMade : Core → (next later : ℕ) → Saved → Type 0
+LaterIsMade core next later s = next ≤ later → IsMade core next s → IsMade core later s
 
 abbrev pub LeftIsMade : Core → (next : ℕ) → State → Type 0
 LeftIsMade core next s = IsMade core next (kept s) → IsMade core next (kept (left_call s))

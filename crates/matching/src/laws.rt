@@ -7,7 +7,7 @@ ghost use Rattle.cells430.specs.Cells.{Cells};
 ghost use Rattle.core_tree.specs.declared.program.Core.{Core};
 ghost use Rattle.ideal430.specs.Ideal.{Ideal};
 ghost use Rattle.core_tree.specs.declared.program.Function.{Function};
-ghost use Rattle.matching.specs.Laws.{AccessedStandsAlone, CellsMatch, ClearedIsCovered, ClearedIsMade, ElsewhereIsCovered, EnteredIsCovered, EnteredIsMade, LeftIsCovered, LeftIsMade, LocalsLieInFrames, MatchesAlong, SharesNoByte, StartIsMade, StoreSetsCell, StoredIsMade, VariablesLieInData, WordsAreAligned};
+ghost use Rattle.matching.specs.Laws.{AccessedStandsAlone, CellsMatch, ClearedIsCovered, ClearedIsMade, ElsewhereIsCovered, EnteredIsCovered, EnteredIsMade, LaterIsMade, LeftIsCovered, LeftIsMade, LocalsLieInFrames, MatchesAlong, SharesNoByte, StartIsMade, StoreKeepsCovered, StoreSetsCell, StoredIsMade, VariablesLieInData, WordsAreAligned};
 
 use core_layout::{
     frames_lie_apart, scalars_are_aligned, scalars_fit, scalars_rise, stamps_lie_behind,
@@ -64,6 +64,17 @@ pub fn an_accessed_scalar_stands_alone()
     objects_share_no_byte();
 }
 
+/// A store to a scalar that is accessed, through whatever pointer, is one cell set, and keeps the whole state covered.
+pub fn a_store_keeps_all_covered()
+    ensures { (core : Core) → (next : ℕ) → (s : State) → (f : Cells) → (n offset : ℕ) → (k : Kind) → (old v : Value)
+        → StoreKeepsCovered core next s f n offset k old v }
+{
+    scalars_fit();
+    scalars_rise();
+    frames_lie_apart();
+    stamps_lie_behind();
+}
+
 /// At the start, and after a store, a declaration, a call and its end, the objects of a run are as a run makes them.
 pub fn runs_keep_objects_made()
     ensures start { (core : Core) → StartIsMade core }
@@ -73,6 +84,7 @@ pub fn runs_keep_objects_made()
     ensures call { (core : Core) → (next : ℕ) → (s : State) → (function frame : ℕ) → (f : Function)
         → EnteredIsMade core next s function frame f }
     ensures end { (core : Core) → (next : ℕ) → (s : State) → LeftIsMade core next s }
+    ensures later { (core : Core) → (next later : ℕ) → (s : Saved) → LaterIsMade core next later s }
 {}
 
 /// What has its cells keeps them: after a declaration, a call and its end, and where other cells are changed.
