@@ -5,6 +5,7 @@ pub mod Finding
 pub mod Keeping
 pub mod Lying
 pub mod Making
+pub mod Metered
 pub mod SameBytes
 pub mod Storing
 pub mod Whole

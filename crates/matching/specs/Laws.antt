@@ -1,9 +1,14 @@
 -- What holds of matching words: statements, which the laws of the crate show.
-use Rattle.std.specs.Prelude.{◌≡◌, ℕ, ◌+◌, length, slice_get, Some, Ok, ◌≤◌}
+use Rattle.std.specs.Prelude.{List, ◌≡◌, ℕ, ◌+◌, length, slice_get, Some, Ok, ◌≤◌, ◌<◌}
 use Rattle.base16.specs.declared.image.Kind.{Kind}
 use Rattle.base16.specs.Board.{data_start, most_outputs}
 use Rattle.base16.specs.Placement.{frame_below}
-use Rattle.c_meaning.specs.After.{start, objects_of}
+use Rattle.base16.specs.Readings.{IsReadings}
+use Rattle.base16.specs.declared.end.EndKind.TheVariants.{Done}
+use Rattle.base16.specs.declared.reading.Reading.{Reading}
+use Rattle.c_meaning.specs.After.{start, objects_of, after}
+use Rattle.c_meaning.specs.declared.outcome.CState.{CState}
+use Rattle.c_meaning.specs.declared.outcome.CState.TheVariants as state
 use Rattle.c_run.specs.Actions.{kept, top_of, with_call, left_call}
 use Rattle.c_run.specs.Making.{fresh_objects}
 use Rattle.c_values.specs.Objects.{accessed, with_scalar, with_cleared}
@@ -20,19 +25,44 @@ use Rattle.core_tree.specs.LawfulCore.{Every}
 use Rattle.core_tree.specs.declared.program.Core.{Core}
 use Rattle.core_tree.specs.declared.program.Function.{Function}
 use Rattle.ideal430.specs.Agreement.{Agrees}
-use Rattle.ideal430.specs.Ideal.{Ideal}
+use Rattle.ideal430.specs.Ideal.{Meter, Ideal, run}
+use Rattle.ideal430.specs.Loaded.{loaded, start_of}
 use Rattle.ideal430.specs.Service.{Block}
 use Rattle.ideal430.specs.Settled.{Bytes}
 use Rattle.matching.specs.Covering.{cell_of, Covered, IsCovered, Apart, HaveCells, SameCells, AllPointBelow}
 use Rattle.matching.specs.Laid.{AreLaid, IsAligned, IsMade, LiesIn, bytes_of}
 use Rattle.matching.specs.Matches.{address_of, encoded, placed, WordsAre, Matches, placed_from, local_address}
 use Rattle.matching.specs.Said.{said}
-use Rattle.matching.specs.Simulates.{MachineMatches}
+use Rattle.matching.specs.Simulates.{MachineMatches, Simulates}
 
 -- what goes along with the machine matches the state that the machine's words match
 abbrev pub MatchesAlong : Core → State → Ideal → Type 0
 MatchesAlong core s t = (regs m : ℕ → ℕ) → (segment : ℕ) → (block : Block) → (marks : ℕ) → Agrees t regs m segment block marks
     → MachineMatches core s t → Matches core s m block
+
+-- the same machine, with another count of ticks, entries and commits, and another period
+abbrev pub metered : Ideal → Meter → Ideal
+metered t meter = record t { meter = meter }
+
+-- the C run, asked for s marks, has made them all, and this is its state just behind the last
+abbrev pub ComesTo : CState → (s : ℕ) → State → Type 0
+ComesTo (state.Live d) s c = d ≡ c
+ComesTo (state.Ended kind d) s c = (kind ≡ Done) × (d.marks ≡ s) × (d ≡ c)
+ComesTo _ s c = ⊥
+
+-- the n-th instruction of the machine made its s-th mark
+pub record HasJustMarked (start : Ideal) (n s : ℕ) : Type 0 where
+  pub marks : (run n start).marks ≡ s
+  pub first : (k : ℕ) → k < n → (run k start).marks < s
+
+-- Where an image simulates a program, every memory that goes along with its machine just behind a mark matches the state of the
+-- C run there, whatever the machine counts.
+abbrev pub MarkIsMatched : Core → (code globals : List ℕ) → List Reading → Meter → (s : ℕ) → State → (n : ℕ) → Type 0
+MarkIsMatched core code globals readings meter s c n = Simulates core code globals → IsReadings readings
+    → ComesTo (after core readings s) s c → HasJustMarked (metered (start_of (loaded code globals) readings) meter) n s
+    → (regs m : ℕ → ℕ) → (segment : ℕ) → (block : Block) → (marks : ℕ)
+    → Agrees (run n (metered (start_of (loaded code globals) readings) meter)) regs m segment block marks
+    → Matches core c m block
 
 -- where a state has its cells, and they stand, the words match the state, by settled bytes
 abbrev pub CellsMatch : Core → Saved → Cells → Type 0

@@ -1,13 +1,14 @@
-ghost use Rattle.std.specs.Prelude.{ℕ};
+ghost use Rattle.std.specs.Prelude.{ℕ, List};
+ghost use Rattle.base16.specs.declared.reading.Reading.{Reading};
 ghost use Rattle.base16.specs.declared.image.Kind.{Kind};
 ghost use Rattle.c_values.specs.declared.state.Saved.{Saved};
 ghost use Rattle.c_values.specs.declared.state.State.{State};
 ghost use Rattle.c_values.specs.declared.value.Value.{Value};
 ghost use Rattle.cells430.specs.Cells.{Cells};
 ghost use Rattle.core_tree.specs.declared.program.Core.{Core};
-ghost use Rattle.ideal430.specs.Ideal.{Ideal};
+ghost use Rattle.ideal430.specs.Ideal.{Ideal, Meter};
 ghost use Rattle.core_tree.specs.declared.program.Function.{Function};
-ghost use Rattle.matching.specs.Laws.{AccessedStandsAlone, CellsMatch, ClearedIsCovered, ClearedIsMade, ElsewhereIsCovered, EnteredIsCovered, EnteredIsMade, LaterIsMade, LeftIsCovered, LeftIsMade, LocalsLieInFrames, MatchesAlong, SharesNoByte, StartIsMade, StoreKeepsCovered, StoreSetsCell, StoredIsMade, VariablesLieInData, WordsAreAligned};
+ghost use Rattle.matching.specs.Laws.{AccessedStandsAlone, CellsMatch, ClearedIsCovered, ClearedIsMade, ElsewhereIsCovered, EnteredIsCovered, EnteredIsMade, LaterIsMade, LeftIsCovered, LeftIsMade, LocalsLieInFrames, MarkIsMatched, MatchesAlong, SharesNoByte, StartIsMade, StoreKeepsCovered, StoreSetsCell, StoredIsMade, VariablesLieInData, WordsAreAligned};
 
 use core_layout::{
     frames_lie_apart, scalars_are_aligned, scalars_fit, scalars_rise, stamps_lie_behind,
@@ -16,6 +17,13 @@ use core_layout::{
 /// Where the words of the machine match a state by settled bytes alone, so does every memory that goes along with the machine.
 pub fn settled_bytes_match()
     ensures { (core : Core) → (s : State) → (t : Ideal) → MatchesAlong core s t }
+{}
+
+/// Where an image simulates a program, every memory that goes along with its machine just behind a mark matches the state of the
+/// C run there.
+pub fn a_mark_is_matched()
+    ensures { (core : Core) → (code globals : List ℕ) → (readings : List Reading) → (meter : Meter) → (s : ℕ) → (c : State)
+        → (n : ℕ) → MarkIsMatched core code globals readings meter s c n }
 {}
 
 /// Where each scalar, stamp and output of a state has its cell, and the cells stand, the words match the state, by settled
