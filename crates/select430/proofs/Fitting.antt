@@ -110,17 +110,17 @@ module _ (ir : Ir) (fn : IrFunction) where
   worked xs ys d m n t k a b =
       wider _ (m + (n + 4)) (m + (n + 4)) (0 + (t + 0)) t (0 + (k + 0)) k (both xs (ys ++ code.keep ir fn d 12) m (n + 4) 0 (t + 0) 0 (k + 0) a (both ys (code.keep ir fn d 12) n 4 t 0 k 0 b (keep12 d))) (omega arith) (omega arith) (omega arith)
 
-  complement_fits : Fit (code.unary ir fn un.Complement) 2 0 0
+  complement_fits : Fit (code.unary un.Complement) 2 0 0
   complement_fits = leaf _ 2 (omega arith) refl refl refl
 
-  not_fits : Fit (code.unary ir fn un.Not) 8 1 0
+  not_fits : Fit (code.unary un.Not) 8 1 0
   not_fits = record { bytes = omega arith; skip = omega arith; help = refl; right = refl }
 
   unary_fits : (o : UnaryOp) (x : Operand) (d : ℕ) → Fit (code.unary_parts ir fn o x d) (unary_step o x) 1 0
   unary_fits un.Plus x d = wider _ (place x) (place x) 0 1 0 0 (put_fits x d) (omega arith) (omega arith) refl
   unary_fits un.Minus x d = wider _ (row.bring x + (4 + 4)) _ 0 1 0 0 (worked (code.bring ir fn x d 12) negated d (row.bring x) 4 0 0 (bring_fits x d 12 is12) negated_fits) (omega arith) (omega arith) refl
-  unary_fits un.Complement x d = wider _ (row.bring x + (2 + 4)) _ 0 1 0 0 (worked (code.bring ir fn x d 12) (code.unary ir fn un.Complement) d (row.bring x) 2 0 0 (bring_fits x d 12 is12) complement_fits) (omega arith) (omega arith) refl
-  unary_fits un.Not x d = wider _ (row.bring x + (8 + 4)) _ 1 1 0 0 (worked (code.bring ir fn x d 12) (code.unary ir fn un.Not) d (row.bring x) 8 1 0 (bring_fits x d 12 is12) not_fits) (omega arith) (omega arith) refl
+  unary_fits un.Complement x d = wider _ (row.bring x + (2 + 4)) _ 0 1 0 0 (worked (code.bring ir fn x d 12) (code.unary un.Complement) d (row.bring x) 2 0 0 (bring_fits x d 12 is12) complement_fits) (omega arith) (omega arith) refl
+  unary_fits un.Not x d = wider _ (row.bring x + (8 + 4)) _ 1 1 0 0 (worked (code.bring ir fn x d 12) (code.unary un.Not) d (row.bring x) 8 1 0 (bring_fits x d 12 is12) not_fits) (omega arith) (omega arith) refl
 
   convert_fits : (t : IntType) (x : Operand) (d : ℕ) → Fit (code.convert ir fn t x d) (convert_bytes t x) 0 0
   convert_fits int.Char x d = wider _ (row.bring x + (2 + 4)) _ 0 0 0 0 (worked (code.bring ir fn x d 12) (narrowed kind.Char 12) d (row.bring x) 2 0 0 (bring_fits x d 12 is12) (narrowed_fits kind.Char 12 is12)) (omega arith) (omega arith) refl

@@ -8,3 +8,5 @@ pub mod Differing
 pub mod Jumping
 pub mod Naming
 pub mod Owning
+pub mod Adding
+pub mod Stamps

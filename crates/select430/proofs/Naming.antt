@@ -167,8 +167,8 @@ module _ (ir : Ir) (fn : IrFunction) where
   unary_quiet : (o : UnaryOp) (x : Operand) (d : ℕ) → Quiet (code.unary_parts ir fn o x d)
   unary_quiet un.Plus x d = put_quiet x d
   unary_quiet un.Minus x d = past (code.bring ir fn x d 12) (negated ++ code.keep ir fn d 12) [] (bring_quiet x d 12) refl
-  unary_quiet un.Complement x d = past (code.bring ir fn x d 12) (code.unary ir fn un.Complement ++ code.keep ir fn d 12) [] (bring_quiet x d 12) refl
-  unary_quiet un.Not x d = past (code.bring ir fn x d 12) (code.unary ir fn un.Not ++ code.keep ir fn d 12) [] (bring_quiet x d 12) refl
+  unary_quiet un.Complement x d = past (code.bring ir fn x d 12) (code.unary un.Complement ++ code.keep ir fn d 12) [] (bring_quiet x d 12) refl
+  unary_quiet un.Not x d = past (code.bring ir fn x d 12) (code.unary un.Not ++ code.keep ir fn d 12) [] (bring_quiet x d 12) refl
 
   convert_quiet : (t : IntType) (x : Operand) (d : ℕ) → Quiet (code.convert ir fn t x d)
   convert_quiet int.Char x d = past (code.bring ir fn x d 12) (narrowed kind.Char 12 ++ code.keep ir fn d 12) [] (bring_quiet x d 12) refl

@@ -193,15 +193,25 @@ perform (operation.Difference size) = two Sub 13 12 ∷ counted size
 perform (operation.ComparePointers o) = compare o false
 
 -- the flags by which an operation is tested, and the condition in which it comes out true
+abbrev pub tested : List Part → List Part
+tested xs = xs ++ against_zero ∷ []
+
 abbrev pub test_flags : Operation → List Part
-test_flags (operation.Integers o t own) = if is_comparison o then flags o ∷ [] else operate o t ++ against_zero ∷ []
+test_flags (operation.Integers o t own) = if is_comparison o then flags o ∷ [] else tested (operate o t)
 test_flags (operation.ComparePointers o) = flags o ∷ []
-test_flags o = perform o ++ against_zero ∷ []
+test_flags o = tested (perform o)
 
 abbrev pub test_where : Operation → Cond
 test_where (operation.Integers o t own) = if is_comparison o then holds_where o (is_signed t) else Nz
 test_where (operation.ComparePointers o) = holds_where o false
 test_where o = Nz
+
+-- an operator on R12
+abbrev pub unary : UnaryOp → List Part
+unary un.Plus = []
+unary un.Minus = negated
+unary un.Complement = with_number Xor (negsuc 0) 12 ∷ []
+unary un.Not = against_zero ∷ truth_where Z
 
 -- ---- what a service is told
 
@@ -269,12 +279,6 @@ module _ (ir : Ir) (fn : IrFunction) where
   bring_both o left right d = bring left d (left_register o) ++ bring right (d + taken left) (right_register o)
 
   -- ---- operators of one value
-
-  abbrev pub unary : UnaryOp → List Part
-  unary un.Plus = []
-  unary un.Minus = negated
-  unary un.Complement = with_number Xor (negsuc 0) 12 ∷ []
-  unary un.Not = against_zero ∷ truth_where Z
 
   abbrev pub unary_parts : UnaryOp → Operand → (depth : ℕ) → List Part
   unary_parts un.Plus x d = put x d

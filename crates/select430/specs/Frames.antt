@@ -58,9 +58,9 @@ abbrev pub global_at : Ir → (n offset : ℕ) → ℕ
 global_at ir n offset = word (address_or (slice_get ir.globals n) + offset)
 
 abbrev pub globals_end : List IrGlobal → ℕ
-globals_end [] = data_start
+globals_end [] = 0
 globals_end (g ∷ gs) = max (g.address + scalars_end g.scalars) (globals_end gs)
 
 -- the stamp of the scalar at an offset of a variable
 abbrev pub stamp_at : Ir → (n offset : ℕ) → ℕ
-stamp_at ir n offset = word (even (globals_end ir.globals) + 4 * stamp_in 0 ir.globals n offset)
+stamp_at ir n offset = word (even (max data_start (globals_end ir.globals)) + 4 * stamp_in 0 ir.globals n offset)

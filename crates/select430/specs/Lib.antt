@@ -5,3 +5,4 @@ pub mod Code
 pub mod Items
 pub mod Laying
 pub mod Laws
+pub mod Adding
