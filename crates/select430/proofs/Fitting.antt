@@ -175,7 +175,7 @@ module _ (ir : Ir) (fn : IrFunction) where
 
   copies_fit : (i : ℕ) (ls : List IrLocal) → Fit (code.copies ir fn i ls) (6 * length ls) 0 0
   copies_fit i [] = nothing 0 0
-  copies_fit i (l ∷ ls) = wider _ (6 + 6 * length ls) _ 0 0 0 0 (both (Do (Two Mov (is_char (first_kind l.scalars)) (Indexed 14 (2 * i)) (ToIndexed 1 (word l.offset))) ∷ []) (code.copies ir fn (suc i) ls) 6 (6 * length ls) 0 0 0 0 (copied (is_char (first_kind l.scalars)) (2 * i) (word l.offset)) (copies_fit (suc i) ls)) (omega arith) (omega arith) refl
+  copies_fit i (l ∷ ls) = wider _ (6 + 6 * length ls) _ 0 0 0 0 (both (code.copy l i ∷ []) (code.copies ir fn (suc i) ls) 6 (6 * length ls) 0 0 0 0 (copied (is_char (first_kind l.scalars)) (word (2 * i)) (word l.offset)) (copies_fit (suc i) ls)) (omega arith) (omega arith) refl
 
   taken_few : (n : ℕ) (ls : List IrLocal) → length (take n ls) ≤ n
   taken_few zero ls = omega arith

@@ -10,3 +10,4 @@ pub mod Naming
 pub mod Owning
 pub mod Adding
 pub mod Stamps
+pub mod Copies

@@ -233,6 +233,10 @@ low_word limit = word limit
 abbrev pub high_word : ℕ → ℕ
 high_word limit = word (limit / 65536)
 
+-- the argument of a number becomes a local
+abbrev pub copy : IrLocal → (number : ℕ) → Part
+copy l i = Do (Two Mov (is_char (first_kind l.scalars)) (Indexed 14 (word (2 * i))) (ToIndexed 1 (word l.offset)))
+
 module _ (ir : Ir) (fn : IrFunction) where
   -- ---- the temporaries of a call, which no other part of a step knows
 
@@ -330,8 +334,7 @@ module _ (ir : Ir) (fn : IrFunction) where
   -- the words from R14 on become the first locals
   abbrev pub copies : (number : ℕ) → List IrLocal → List Part
   copies i [] = []
-  copies i (l ∷ ls) =
-      Do (Two Mov (is_char (first_kind l.scalars)) (Indexed 14 (2 * i)) (ToIndexed 1 (word l.offset))) ∷ copies (suc i) ls
+  copies i (l ∷ ls) = copy l i ∷ copies (suc i) ls
 
   -- enter and leave are told the bytes of the frame
   abbrev pub framed : ℕ → List Part

@@ -7,6 +7,10 @@ mod instrs;
 mod laws;
 mod operands;
 mod part;
+mod selection;
+mod steps;
+mod timing;
 
 pub use laws::{items_keep_to_their_step, labels_differ, steps_stand_at_their_labels};
 pub use part::Part;
+pub use selection::select;
