@@ -1,7 +1,7 @@
 -- Numbers of stamps modulo 2^16.
 use Rattle.std.proofs.Common.{◌≡◌, ℕ, zero, suc, ◌+◌, ◌-◌, ◌%◌, ◌<◌, refl, sym, ap, ◌∙◌, arith, List, [], ◌∷◌, length, drop, get_or, add-one, drop-cons}
 use Rattle.ir.specs.declared.form.IrGlobal.{IrGlobal}
-use Rattle.ir.specs.Machine.{place_in, stamps_of, stamp_in}
+use Rattle.ir.specs.Machine.{stamps_of, stamp_in}
 use Rattle.select430.specs.Frames.{word}
 
 -- what is equal modulo 2^16 before leads to what is equal so

@@ -1,4 +1,4 @@
-use Rattle.std.proofs.Common.{◌≡◌, ◌<◌, ◌+◌, drop}
+use Rattle.std.proofs.Common.{◌≡◌, ◌<◌, drop}
 use Rattle.ir.specs.Machine as machine
 use Rattle.select430.specs.Frames as spec
 use Rattle.select430.proofs.frames.stamp_in.Given as goal
