@@ -1,1 +1,4 @@
+pub mod CodeSizes
+pub mod Equations
 pub mod Locals
+pub mod Members

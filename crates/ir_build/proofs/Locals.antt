@@ -1,5 +1,5 @@
 -- The parameters and locals of a function, and the variables of a program, one after the other.
-use Rattle.std.proofs.Common.{◌≡◌, ℕ, zero, suc, ◌+◌, ◌<◌, ◌≤◌, ◌%◌, min, List, [], ◌∷◌, ◌++◌, length, get_or, drop, take, map, slice_get, Some, None, refl, ap, sym, ◌∙◌, subst, arith, append_assoc, length-append, add-one, drop-cons}
+use Rattle.std.proofs.Common.{◌≡◌, ℕ, zero, suc, ◌+◌, ◌<◌, ◌≤◌, ◌%◌, min, List, [], ◌∷◌, ◌++◌, length, get_or, drop, take, map, slice_get, Some, None, refl, ap, sym, ◌∙◌, subst, arith, append_assoc, length-append, add-one}
 use Rattle.std.proofs.lemmas.List.{append-nil, map-append, length-map}
 use Rattle.std.proofs.lemmas.Grind.{common_steps}
 use Rattle.core_tree.specs.declared.types.Ty.{Ty}
@@ -23,10 +23,8 @@ use Rattle.ir.specs.declared.form.IrFunction.{IrFunction}
 use Rattle.ir.specs.declared.form.Step.{Step}
 use Rattle.ir_gen.specs.Body.{function_steps}
 use Rattle.ir_gen.specs.Form.{locals_from, globals_from, function_of, initial_values}
+use Rattle.ir_build.proofs.CodeSizes.{next_is}
 use Rattle.ir_build.specs.Laying.{slots_in, placed_from, variable_at, variables_from}
-
-next_is : {A : Type 0} (all : List A) (i : ℕ) (x : A) → i < length all → x ≡ get_or all i x → drop i all ≡ x ∷ drop (i + 1) all
-next_is all i x h here = rw (add-one) (drop-cons all i x h) ∙ ap (λ y. y ∷ drop (i + 1) all) (sym here)
 
 -- ---- rows of layouts
 

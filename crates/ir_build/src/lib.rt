@@ -1,8 +1,20 @@
-//! The three-address form of a program, made as its definition says: its variables.
+//! The three-address form of a program, made as its definition says: its variables, the steps that stand between the
+//! parts of expressions, and how many steps expressions have.
 #![tactic(auto)]
 
+mod choices;
 mod emit;
+mod kinds;
 mod laying;
+mod parts;
+mod sizes;
 mod variables;
 
+pub use choices::{put_and, put_branch, put_or, put_truth};
+pub use kinds::{
+    constant, pointer_plus, put_local, put_local_update, put_update, scalar_of, sum_step,
+    update_operation,
+};
+pub use parts::{Part, member_offset, part_of};
+pub use sizes::expr_count;
 pub use variables::globals_of;
