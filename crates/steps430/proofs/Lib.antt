@@ -1,0 +1,10 @@
+pub mod Keeping
+pub mod Moves
+pub mod Outcomes
+pub mod Scalars
+pub mod Reading
+pub mod Values
+pub mod Operands
+pub mod Steps
+pub mod Plain
+pub mod Passing

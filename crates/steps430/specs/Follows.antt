@@ -1,0 +1,56 @@
+-- What it means that the code of a step does the step: for each way in which the step can come out the machine comes there, in
+-- at most as many instructions.
+use Rattle.std.specs.Prelude.{◌≡◌, ℕ, suc, ◌+◌, ◌-◌, List, length, drop, Some, slice_get}
+use Rattle.base16.specs.declared.end.EndKind.{EndKind}
+use Rattle.c_run.specs.Runs.{Run, Stop, Live, Ended as Over, NeedsReading as Lacks, Undefined, Wrong, Outcome, Went, Stopped}
+use Rattle.c_values.specs.declared.state.State.{State}
+use Rattle.ideal430.specs.Ideal.{Ideal}
+use Rattle.ideal430.specs.declared.state.IdealEnd.TheVariants.{Running, Ended, NeedsReading}
+use Rattle.cells430.specs.Stretch.{StepsTo, Leads}
+use Rattle.ir.specs.declared.form.Step.{Step}
+use Rattle.ir.specs.declared.form.StepKind.{StepKind}
+use Rattle.ir.specs.declared.control.Frame.{Frame}
+use Rattle.ir.specs.declared.control.Temporary.{Temporary}
+use Rattle.ir.specs.declared.control.Control.{Control}
+use Rattle.ir.specs.declared.control.Control.TheVariants.{At}
+use Rattle.ir.specs.Machine.{act}
+use Rattle.matching.specs.Simulates.{MachineMatches}
+use Rattle.steps430.specs.Setting.{Setting, function_of, step_code, IsLaid}
+use Rattle.steps430.specs.Standing.{StandsAt}
+
+-- The next instruction makes a mark, and just behind it the words match the state of the run.
+pub record MakesMark (p : Setting) (s : State) (used : ℕ) (t : Ideal) : Type 0 where
+  pub next : Ideal
+  pub step : StepsTo t next
+  pub running : next.status ≡ Running
+  pub before : t.marks + 1 ≡ next.marks
+  pub marks : next.marks ≡ s.marks
+  pub taken : next.left ≡ drop used p.readings
+  pub matches : MachineMatches p.core s next
+
+-- The machine has ended in this way, and its words match the state of the run.
+pub record HasEnded (p : Setting) (kind : EndKind) (s : State) (used : ℕ) (t : Ideal) : Type 0 where
+  pub ended : t.status ≡ Ended kind
+  pub marks : t.marks ≡ s.marks
+  pub taken : t.left ≡ drop used p.readings
+  pub matches : MachineMatches p.core s t
+
+-- it lacks a reading
+pub record LacksReading (t : Ideal) : Type 0 where
+  pub lacks : t.status ≡ NeedsReading
+
+-- From here at most so many instructions lead to where a step comes out. A mark that ends a run is the last of them.
+abbrev pub Follows : Setting → (limit : ℕ) → Outcome Control → Ideal → Type 0
+Follows p limit (Went c q) t = Leads limit t (StandsAt p c q)
+Follows p limit (Stopped (Live s used)) t = Leads (limit - 1) t (MakesMark p s used)
+Follows p limit (Stopped (Over kind s used)) t = Leads limit t (HasEnded p kind s used)
+Follows p limit (Stopped Lacks) t = Leads limit t LacksReading
+Follows p limit (Stopped (Undefined rule node)) t = Unit {0}
+Follows p limit (Stopped Wrong) t = Unit {0}
+
+-- the code of a step does the step, in at most so many instructions
+abbrev pub DoesStep : Setting → (limit : ℕ) → StepKind → Type 0
+DoesStep p limit k = (f q first : ℕ) (ts : List Temporary) (below : List Frame) (node : ℕ) (r : Run) (t : Ideal)
+    → slice_get (function_of p f).steps q ≡ Some (record { node = node; kind = k })
+    → StandsAt p (At f q first ts below) r t
+    → Follows p limit (act p.ir p.readings node k f q first ts below r) t

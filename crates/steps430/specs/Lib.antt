@@ -1,0 +1,4 @@
+pub mod Setting
+pub mod Holds
+pub mod Standing
+pub mod Follows
