@@ -8,3 +8,4 @@ pub mod Operands
 pub mod Steps
 pub mod Plain
 pub mod Passing
+pub mod Places
