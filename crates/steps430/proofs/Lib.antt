@@ -9,3 +9,6 @@ pub mod Steps
 pub mod Plain
 pub mod Passing
 pub mod Places
+pub mod Words
+pub mod Pairs
+pub mod Sums
