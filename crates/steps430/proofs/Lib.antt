@@ -12,3 +12,4 @@ pub mod Places
 pub mod Words
 pub mod Pairs
 pub mod Sums
+pub mod Marks

@@ -128,7 +128,7 @@ result m v w = two_result m false false v w
 abbrev good : ℤ → Result ℤ ℕ
 good z = Ok z
 
-same_number : (a b : ℤ) → good a ≡ good b → a ≡ b
+pub same_number : (a b : ℤ) → good a ≡ good b → a ≡ b
 same_number a b e = cc
 
 bits : (t : IntType) (n : ℕ) (z : ℤ) → IsWide t → n < 65536 → as_type t (pos n) ≡ z → n ≡ wrapped z
