@@ -13,3 +13,4 @@ pub mod Words
 pub mod Pairs
 pub mod Sums
 pub mod Marks
+pub mod Conditions
