@@ -24,7 +24,7 @@ use Rattle.matching.specs.Matches.{Placed, placed_from, local_address, placed_in
 
 -- ---- a scalar among others
 
-width_some : (k : Kind) → 1 ≤ width k
+pub width_some : (k : Kind) → 1 ≤ width k
 width_some kind.Char = omega arith
 width_some kind.Int = omega arith
 width_some kind.UInt = omega arith

@@ -49,7 +49,7 @@ scalars_elsewhere f g alive a [] e h = tt
 scalars_elsewhere f g alive a (c ∷ cs) e h =
     (moved_cells f g (a + c.offset) c.kind (encoded alive c.kind c.value) e.0 h.0, scalars_elsewhere f g alive a cs e.1 h.1)
 
-objects_elsewhere : (f g : Cells) (alive ps : List Placed) → SameCells f g ps → Covered f alive ps → Covered g alive ps
+pub objects_elsewhere : (f g : Cells) (alive ps : List Placed) → SameCells f g ps → Covered f alive ps → Covered g alive ps
 objects_elsewhere f g alive [] e h = tt
 objects_elsewhere f g alive (p ∷ ps) e h =
     (scalars_elsewhere f g alive p.address p.object.cells e.0 h.0, objects_elsewhere f g alive ps e.1 h.1)

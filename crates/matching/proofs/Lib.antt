@@ -6,6 +6,7 @@ pub mod Keeping
 pub mod Lying
 pub mod Making
 pub mod Metered
+pub mod Outside
 pub mod SameBytes
 pub mod Storing
 pub mod Whole

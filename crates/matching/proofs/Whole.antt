@@ -41,7 +41,7 @@ module _ (f : Cells) (a : ℕ) (x : Cell) where
         stamps_away core (n + 1) ys away h.1,
       )
 
-  words_away : (start : ℕ) (ws : List ℕ) → start + 2 * length ws ≤ a → WordsCovered f start ws
+  pub words_away : (start : ℕ) (ws : List ℕ) → start + 2 * length ws ≤ a → WordsCovered f start ws
       → WordsCovered (set_cell f a x) start ws
   words_away start [] l h = tt
   words_away start (w ∷ ws) l h =
@@ -51,7 +51,7 @@ module _ (f : Cells) (a : ℕ) (x : Cell) where
 
 -- ---- where objects lie
 
-abbrev Sited : Core → Placed → Type 0
+abbrev pub Sited : Core → Placed → Type 0
 Sited core p = LiesIn data_start (stamps_start core) p ⊎ LiesIn stack_start stack_end p
 
 abbrev IsSite : Core → ℕ → Type 0
@@ -97,7 +97,7 @@ calls_sited core (c ∷ cs) z h =
 
 module _ (core : Core) (fit : (t : Ty) → SlotsFit core.structs t) (rise : (t : Ty) → SlotsRise core.structs t)
     (apart : (frames addresses : List ℕ) → PlacedFramesLieApart frames addresses) (behind : StampsLie core) where
-  all_sited : (next : ℕ) (s : Saved) → IsMade core next s → Every (Sited core) (placed core s)
+  pub all_sited : (next : ℕ) (s : Saved) → IsMade core next s → Every (Sited core) (placed core s)
   all_sited next s h =
       each_append (Sited core) (placed_from (global_address core) 0 s.globals) (placed_in_calls core s.calls)
       (each (LiesIn data_start (stamps_start core)) (Sited core) (placed_from (global_address core) 0 s.globals) (λ p l. inl l)

@@ -1,7 +1,7 @@
 -- What holds of matching words: statements, which the laws of the crate show.
-use Rattle.std.specs.Prelude.{List, ◌≡◌, ℕ, ◌+◌, length, slice_get, Some, Ok, ◌≤◌, ◌<◌}
+use Rattle.std.specs.Prelude.{List, ◌≡◌, ℕ, ◌+◌, length, slice_get, Some, Ok, ◌≤◌, ◌<◌, ◌*◌, ◌/◌, ◌%◌, [], ◌∷◌, ◌++◌}
 use Rattle.base16.specs.declared.image.Kind.{Kind}
-use Rattle.base16.specs.Board.{data_start, most_outputs}
+use Rattle.base16.specs.Board.{data_start, most_outputs, outputs_start}
 use Rattle.base16.specs.Placement.{frame_below}
 use Rattle.base16.specs.Readings.{IsReadings}
 use Rattle.base16.specs.declared.end.EndKind.TheVariants.{Done}
@@ -9,7 +9,7 @@ use Rattle.base16.specs.declared.reading.Reading.{Reading}
 use Rattle.c_meaning.specs.After.{start, objects_of, after}
 use Rattle.c_meaning.specs.declared.outcome.CState.{CState}
 use Rattle.c_meaning.specs.declared.outcome.CState.TheVariants as state
-use Rattle.c_run.specs.Actions.{kept, top_of, with_call, left_call}
+use Rattle.c_run.specs.Actions.{kept, top_of, with_call, left_call, with_stamp}
 use Rattle.c_run.specs.Making.{fresh_objects}
 use Rattle.c_values.specs.Objects.{accessed, with_scalar, with_cleared}
 use Rattle.c_values.specs.Pointers.{at}
@@ -17,9 +17,9 @@ use Rattle.c_values.specs.declared.state.Call.{Call}
 use Rattle.c_values.specs.declared.state.Saved.{Saved}
 use Rattle.c_values.specs.declared.state.State.{State}
 use Rattle.c_values.specs.declared.value.Value.{Value}
-use Rattle.cells430.specs.Cells.{Cells, Shape, Facts, set_cell}
+use Rattle.cells430.specs.Cells.{Cells, Shape, Facts, set_cell, Word}
 use Rattle.core430.specs.Uses.{IsWithin}
-use Rattle.core_tree.specs.Data.{global_address, stamps_start}
+use Rattle.core_tree.specs.Data.{global_address, stamps_start, stamp_address}
 use Rattle.core_tree.specs.Heights.{frame_bytes}
 use Rattle.core_tree.specs.LawfulCore.{Every}
 use Rattle.core_tree.specs.declared.program.Core.{Core}
@@ -112,6 +112,20 @@ StoreKeepsCovered core next s f n offset k old v = IsMade core next (kept s) →
     → IsCovered core (kept s) f → accessed s (at n offset) k ≡ Ok old
     → (x : StandsAlone core s n offset k) × IsCovered core (kept (with_scalar n offset v s))
     (set_cell f (x.address + offset) (cell_of k (encoded (placed core (kept s)) k v)))
+
+-- A stamp that is set is two cells set, which keep the whole state covered.
+abbrev pub StampSetsCells : Core → (next : ℕ) → State → Cells → (n now : ℕ) → Type 0
+StampSetsCells core next s f n now = IsMade core next (kept s) → length s.outputs ≤ most_outputs → IsCovered core (kept s) f
+    → IsCovered core (kept (with_stamp n now s))
+    (set_cell (set_cell f (stamp_address core n) (Word (Some (now % 65536)))) (stamp_address core n + 2)
+    (Word (Some (now / 65536))))
+
+-- So is an output that is appended: its word, then the length.
+abbrev pub OutputSetsCells : Core → (next : ℕ) → State → Cells → (w : ℕ) → Type 0
+OutputSetsCells core next s f w = IsMade core next (kept s) → length s.outputs < most_outputs → IsCovered core (kept s) f
+    → IsCovered core (kept (record s { outputs = s.outputs ++ w ∷ [] }))
+    (set_cell (set_cell f (outputs_start + 2 + 2 * length s.outputs) (Word (Some w))) outputs_start
+    (Word (Some (length s.outputs + 1))))
 
 -- ---- what a run does to the objects of its state
 

@@ -8,7 +8,7 @@ ghost use Rattle.cells430.specs.Cells.{Cells};
 ghost use Rattle.core_tree.specs.declared.program.Core.{Core};
 ghost use Rattle.ideal430.specs.Ideal.{Ideal, Meter};
 ghost use Rattle.core_tree.specs.declared.program.Function.{Function};
-ghost use Rattle.matching.specs.Laws.{AccessedStandsAlone, CellsMatch, ClearedIsCovered, ClearedIsMade, ElsewhereIsCovered, EnteredIsCovered, EnteredIsMade, LaterIsMade, LeftIsCovered, LeftIsMade, LocalsLieInFrames, MarkIsMatched, MatchesAlong, SharesNoByte, StartIsMade, StoreKeepsCovered, StoreSetsCell, StoredIsMade, VariablesLieInData, WordsAreAligned};
+ghost use Rattle.matching.specs.Laws.{AccessedStandsAlone, CellsMatch, ClearedIsCovered, ClearedIsMade, ElsewhereIsCovered, EnteredIsCovered, EnteredIsMade, LaterIsMade, LeftIsCovered, LeftIsMade, LocalsLieInFrames, MarkIsMatched, MatchesAlong, OutputSetsCells, SharesNoByte, StampSetsCells, StartIsMade, StoreKeepsCovered, StoreSetsCell, StoredIsMade, VariablesLieInData, WordsAreAligned};
 
 use core_layout::{
     frames_lie_apart, scalars_are_aligned, scalars_fit, scalars_rise, stamps_lie_behind,
@@ -76,6 +76,17 @@ pub fn an_accessed_scalar_stands_alone()
 pub fn a_store_keeps_all_covered()
     ensures { (core : Core) → (next : ℕ) → (s : State) → (f : Cells) → (n offset : ℕ) → (k : Kind) → (old v : Value)
         → StoreKeepsCovered core next s f n offset k old v }
+{
+    scalars_fit();
+    scalars_rise();
+    frames_lie_apart();
+    stamps_lie_behind();
+}
+
+/// A stamp that is set and an output that is appended are two cells set each, and keep the whole state covered.
+pub fn stamps_and_outputs_set_two_cells()
+    ensures stamp { (core : Core) → (next : ℕ) → (s : State) → (f : Cells) → (n now : ℕ) → StampSetsCells core next s f n now }
+    ensures output { (core : Core) → (next : ℕ) → (s : State) → (f : Cells) → (w : ℕ) → OutputSetsCells core next s f w }
 {
     scalars_fit();
     scalars_rise();
