@@ -1,2 +1,3 @@
 pub mod Emitting
+pub mod Grouping
 pub mod Laying

@@ -1,5 +1,5 @@
 //! The three-address form of a program, made as its definition says: its variables, the steps that stand between the
-//! parts of expressions, and how many steps expressions have.
+//! parts of expressions, and how many steps expressions and statements have.
 #![tactic(auto)]
 
 mod choices;
@@ -8,6 +8,7 @@ mod kinds;
 mod laying;
 mod parts;
 mod sizes;
+mod stmt_sizes;
 mod variables;
 
 pub use choices::{put_and, put_branch, put_or, put_truth};
@@ -17,4 +18,5 @@ pub use kinds::{
 };
 pub use parts::{Part, member_offset, part_of};
 pub use sizes::expr_count;
+pub use stmt_sizes::{case_count, groups_count, stmt_count, stmts_count};
 pub use variables::globals_of;
