@@ -1,5 +1,5 @@
 -- Parts of statements one after another: the first of them, and those behind it.
-use Rattle.std.proofs.Common.{◌≡◌, ℕ, suc, ◌+◌, ◌<◌, ◌≤◌, Bool, true, false, List, [], ◌∷◌, ◌++◌, ◌≢◌, Option, Some, None, length, get_or, drop, map, refl, ap, sym, ◌∙◌, cond, arith}
+use Rattle.std.proofs.Common.{◌≡◌, ℕ, suc, ◌+◌, ◌<◌, ◌≤◌, Bool, true, false, List, [], ◌∷◌, ◌++◌, ◌≢◌, Option, Some, None, length, get_or, drop, map, refl, ap, sym, ◌∙◌, cond, arith, append_assoc}
 use Rattle.std.specs.Prelude.{ℤ}
 use Rattle.std.proofs.lemmas.List.{get_or_past, get_or_default}
 use Rattle.base16.specs.declared.image.Kind.TheVariants as kind
@@ -143,3 +143,51 @@ module _ (S : List Struct) (O : List (List Slot)) where
       ≡ cond (has_default (out-Group x).labels) p
       (b.place_of has_default (p + (b.stmts S O (out-Group x).body).size) (map (grouped S O) (drop (i + 1) all)))
   place_turn p all i x h here = groups_turn (λ (gs : List Grouped). b.place_of has_default p gs) all i x h here
+
+  -- the same with what code found
+  pub place_step : (p next : ℕ) (all : List Group) (i : ℕ) (x : Group) (ls : List (Option ℤ)) (body : List Stmt) (count whole : ℕ)
+      (has : Bool) → i < length all → x ≡ get_or all i x → whole ≡ b.place_of has_default p (map (grouped S O) (drop i all))
+      → ls ≡ (out-Group x).labels → has ≡ has_default ls → has ≡ false → body ≡ (out-Group x).body
+      → count ≡ (b.stmts S O body).size → next ≡ p + count
+      → whole ≡ b.place_of has_default next (map (grouped S O) (drop (i + 1) all))
+  place_step p next all i x ls body count whole has h here so_far own tests none inside counts sums =
+      let rest = map (grouped S O) (drop (i + 1) all) in
+      let size = (b.stmts S O (out-Group x).body).size in
+      let no : has_default (out-Group x).labels ≡ false =
+      sym (tests ∙ ap (λ (l : List (Option ℤ)). has_default l) own) ∙ none in
+      let to : next ≡ p + size =
+      sums ∙ ap (λ (n : ℕ). p + n) (counts ∙ ap (λ (ss : List Stmt). (b.stmts S O ss).size) inside) in
+      so_far
+      ∙ (place_turn p all i x h here
+      ∙ (ap (λ (c : Bool). cond c p (b.place_of has_default (p + size) rest)) no
+      ∙ ap (λ (n : ℕ). b.place_of has_default n rest) (sym to)))
+
+  pub cases_step : (node : ℕ) (t : IntType) (p next : ℕ) (all : List Group) (i : ℕ) (x : Group) (ls : List (Option ℤ))
+      (body : List Stmt) (count : ℕ) (whole before after : List Step) → i < length all → x ≡ get_or all i x
+      → whole ≡ before ++ b.cases node t p (map (grouped S O) (drop i all)) → ls ≡ (out-Group x).labels
+      → after ≡ before ++ b.label_cases node t p ls → body ≡ (out-Group x).body → count ≡ (b.stmts S O body).size
+      → next ≡ p + count → whole ≡ after ++ b.cases node t next (map (grouped S O) (drop (i + 1) all))
+  cases_step node t p next all i x ls body count whole before after h here so_far own writes inside counts sums =
+      let rest = map (grouped S O) (drop (i + 1) all) in
+      let size = (b.stmts S O (out-Group x).body).size in
+      let labels = (out-Group x).labels in
+      let to : next ≡ p + size =
+      sums ∙ ap (λ (n : ℕ). p + n) (counts ∙ ap (λ (ss : List Stmt). (b.stmts S O ss).size) inside) in
+      let written : after ≡ before ++ b.label_cases node t p labels =
+      writes ∙ ap (λ (l : List (Option ℤ)). before ++ b.label_cases node t p l) own in
+      so_far
+      ∙ (ap (λ (ss : List Step). before ++ ss) (cases_turn node t p all i x h here)
+      ∙ (sym (append_assoc before (b.label_cases node t p labels) (b.cases node t (p + size) rest))
+      ∙ (ap (λ (ss : List Step). ss ++ b.cases node t (p + size) rest) (sym written)
+      ∙ ap (λ (n : ℕ). after ++ b.cases node t n rest) (sym to))))
+
+  pub counts_step : (all : List Group) (i : ℕ) (x : Group) (ls : List (Option ℤ)) (whole before after : ℕ) → i < length all
+      → x ≡ get_or all i x → whole ≡ before + b.case_count (map (grouped S O) (drop i all)) → ls ≡ (out-Group x).labels
+      → after ≡ before + b.label_count ls → whole ≡ after + b.case_count (map (grouped S O) (drop (i + 1) all))
+  counts_step all i x ls whole before after h here so_far own writes =
+      let rest = b.case_count (map (grouped S O) (drop (i + 1) all)) in
+      let written : after ≡ before + b.label_count (out-Group x).labels =
+      writes ∙ ap (λ (l : List (Option ℤ)). before + b.label_count l) own in
+      let turn : b.case_count (map (grouped S O) (drop i all)) ≡ b.label_count (out-Group x).labels + rest =
+      case_count_turn all i x h here in
+      omega (arith, so_far, written, turn)

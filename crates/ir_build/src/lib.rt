@@ -1,7 +1,8 @@
 //! The three-address form of a program, made as its definition says: its variables, the steps that stand between the
-//! parts of expressions, and how many steps expressions and statements have.
+//! parts of expressions or choose a group of a `switch`, and how many steps expressions and statements have.
 #![tactic(auto)]
 
+mod cases;
 mod choices;
 mod emit;
 mod kinds;
@@ -11,6 +12,7 @@ mod sizes;
 mod stmt_sizes;
 mod variables;
 
+pub use cases::{case_steps, default_place};
 pub use choices::{put_and, put_branch, put_or, put_truth};
 pub use kinds::{
     constant, pointer_plus, put_local, put_local_update, put_update, scalar_of, sum_step,
