@@ -1,6 +1,6 @@
 pub mod CodeSizes
 pub mod Equations
-pub mod Locals
+pub mod Placing
 pub mod Members
 pub mod StmtEquations
 pub mod StmtTurns

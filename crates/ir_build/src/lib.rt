@@ -1,4 +1,4 @@
-//! The three-address form of a program, made as its definition says: its variables, the steps that stand between the
+//! The three-address form of a program, made as its definition says: its variables and locals, the steps that stand between the
 //! parts of expressions or choose a group of a `switch`, and how many steps expressions and statements have.
 #![tactic(auto)]
 
@@ -7,6 +7,7 @@ mod choices;
 mod emit;
 mod kinds;
 mod laying;
+mod locals;
 mod parts;
 mod sizes;
 mod stmt_sizes;
@@ -18,6 +19,7 @@ pub use kinds::{
     constant, pointer_plus, put_local, put_local_update, put_update, scalar_of, sum_step,
     update_operation,
 };
+pub use locals::{all_slots, frame_of, locals_of, objects_laid};
 pub use parts::{Part, member_offset, part_of};
 pub use sizes::expr_count;
 pub use stmt_sizes::{case_count, groups_count, stmt_count, stmts_count};

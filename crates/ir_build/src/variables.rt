@@ -38,7 +38,7 @@ fn initial_value(kind: Kind, initial: Initial) -> Value
 }
 
 /// What scalars are at the start.
-#[tactic(auto, using(crate::proofs::Locals::values_turn, crate::proofs::Locals::values_end))]
+#[tactic(auto, using(crate::proofs::Placing::values_turn, crate::proofs::Placing::values_end))]
 fn initial_values(
     alloc: Global,
     slots: &[Slot],
@@ -83,7 +83,7 @@ fn variable(
 }
 
 /// The variables of the form.
-#[tactic(auto, using(crate::proofs::Locals::variables_turn, crate::proofs::Locals::globals_are))]
+#[tactic(auto, using(crate::proofs::Placing::variables_turn, crate::proofs::Placing::globals_are))]
 pub fn globals_of(
     alloc: Global,
     core: &Core,

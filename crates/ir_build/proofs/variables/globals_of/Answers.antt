@@ -1,6 +1,6 @@
 use Rattle.std.proofs.Common.{ℕ, ◌+◌, ◌∙◌, ap}
 use Rattle.ir_build.specs.Laying.{variables_from}
-use Rattle.ir_build.proofs.Locals.{globals_done, variables_step}
+use Rattle.ir_build.proofs.Placing.{globals_done, variables_step}
 use Rattle.ir_build.proofs.variables.globals_of.Goals as goal
 
 pub loop-global-preserved : goal.loop-global-preserved

@@ -1,5 +1,5 @@
 use Rattle.std.proofs.Common.{◌≡◌, min, length, arith}
-use Rattle.ir_build.proofs.Locals.{values_done}
+use Rattle.ir_build.proofs.Placing.{values_done}
 use Rattle.ir_build.proofs.variables.initial_values.Goals as goal
 
 pub returns : goal.returns
