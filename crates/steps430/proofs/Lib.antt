@@ -14,3 +14,4 @@ pub mod Pairs
 pub mod Sums
 pub mod Marks
 pub mod Conditions
+pub mod Orders

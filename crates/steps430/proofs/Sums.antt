@@ -125,7 +125,7 @@ pub data IsPlain : BinaryOp → TwoOp → Type 0 where
 abbrev result : TwoOp → ℕ → ℕ → ℕ
 result m v w = two_result m false false v w
 
-abbrev good : ℤ → Result ℤ ℕ
+abbrev pub good : ℤ → Result ℤ ℕ
 good z = Ok z
 
 pub same_number : (a b : ℤ) → good a ≡ good b → a ≡ b
