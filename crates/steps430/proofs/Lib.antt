@@ -15,3 +15,4 @@ pub mod Sums
 pub mod Marks
 pub mod Conditions
 pub mod Orders
+pub mod Numbers

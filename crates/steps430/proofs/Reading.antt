@@ -120,3 +120,40 @@ global_stands p lay s next n base o k made few apart =
     let x = nth_object 0 (λ i. global_address p.core i) 0 n s.globals numbers.0 (omega arith) in
     let is : global_address p.core (0 + n) ≡ base = (x.among (Apart n base o k) mine).here (x.number ∙ plain) in
     sym is ∙ ap (λ (i : ℕ). global_address p.core i) plain ∙ sym (lay.globals n few)
+
+-- the number of a local of the youngest call tells its address, and so does that of a variable
+pub local_found : (p : Setting) (lay : IsLaid p) (s : State) (next : ℕ) (all own : Cells) (segment sp f q first n : ℕ)
+    (ts : List Temporary) (ls : List Frame) (cs : List Call) → IsMade p.core next (kept s) → reverse s.calls ≡ cs
+    → Stacked p all own segment sp (level f q first ts ∷ ls) cs → n < length (function_of p f).locals
+    → address_of (placed p.core (kept s)) (first + n) ≡ Some (sp + offset_or (slice_get (function_of p f).locals n))
+local_found p lay s next all own segment sp f q first n ts ls [] made e h few = absurd h
+local_found p lay s next all own segment sp f q first n ts ls (c ∷ cs) made e h few =
+    let alive : List Placed = placed p.core (kept s) in
+    let mine = in_youngest p.core (λ x. address_of alive x.object.number ≡ Some x.address) s c cs e (lay.found next (kept s) made) in
+    let count = h.0.locals in
+    let x = nth_object first (local_address p.core c) 0 n c.locals h.0.numbers (omega arith) in
+    let is : address_of alive x.object.number ≡ Some (local_address p.core c (0 + n)) =
+    x.among (λ y. address_of alive y.object.number ≡ Some y.address) mine in
+    let function : offset_in p.core.structs (slice_get p.core.functions c.function) n
+    ≡ offset_in p.core.structs (slice_get p.core.functions f) n =
+    ap (λ (g : ℕ). offset_in p.core.structs (slice_get p.core.functions g) n) h.0.function in
+    let plain : 0 + n ≡ n = omega arith in
+    let place : local_address p.core c (0 + n) ≡ sp + offset_or (slice_get (function_of p f).locals n) =
+    ap (local_address p.core c) plain
+    ∙ ap (λ (b : ℕ). b + offset_in p.core.structs (slice_get p.core.functions c.function) n) h.0.frame
+    ∙ ap (λ (b : ℕ). sp + b) (function ∙ sym (lay.locals f n)) in
+    ap (address_of alive) (sym x.number) ∙ is ∙ ap (λ (a : ℕ). Some a) place
+
+pub global_found : (p : Setting) (lay : IsLaid p) (s : State) (next n : ℕ) → IsMade p.core next (kept s) → n < length p.core.globals
+    → address_of (placed p.core (kept s)) n ≡ Some (address_or (slice_get p.ir.globals n))
+global_found p lay s next n made few =
+    let alive : List Placed = placed p.core (kept s) in
+    let mine = in_globals p.core (λ x. address_of alive x.object.number ≡ Some x.address) s (lay.found next (kept s) made) in
+    let plain : 0 + n ≡ n = omega arith in
+    let numbers = lay.numbered next (kept s) made in
+    let count = numbers.1 in
+    let x = nth_object 0 (λ i. global_address p.core i) 0 n s.globals numbers.0 (omega arith) in
+    let is : address_of alive x.object.number ≡ Some (global_address p.core (0 + n)) =
+    x.among (λ y. address_of alive y.object.number ≡ Some y.address) mine in
+    ap (address_of alive) (sym (x.number ∙ plain)) ∙ is
+    ∙ ap (λ (a : ℕ). Some a) (ap (λ (i : ℕ). global_address p.core i) plain ∙ sym (lay.globals n few))

@@ -122,7 +122,7 @@ pub data IsPlain : BinaryOp → TwoOp → Type 0 where
   Either : IsPlain op.Xor Xor
   Any : IsPlain op.Or Bis
 
-abbrev result : TwoOp → ℕ → ℕ → ℕ
+abbrev pub result : TwoOp → ℕ → ℕ → ℕ
 result m v w = two_result m false false v w
 
 abbrev pub good : ℤ → Result ℤ ℕ

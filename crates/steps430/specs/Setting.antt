@@ -165,5 +165,8 @@ pub record IsLaid (p : Setting) : Type 0 where
   pub locals : (g n : ℕ) → offset_or (slice_get (function_of p g).locals n) ≡ offset_in p.core.structs (slice_get p.core.functions g) n
   -- variables are numbered from 0 on, and a scalar that is accessed stands alone
   pub numbered : (next : ℕ) (s : Saved) → IsMade p.core next s → NumberedFrom 0 s.globals × (length s.globals ≡ length p.core.globals)
+  -- the number of an object tells its address
+  pub found : (next : ℕ) (s : Saved) → IsMade p.core next s
+      → Every (λ q. address_of (placed p.core s) q.object.number ≡ Some q.address) (placed p.core s)
   pub alone : (next : ℕ) (s : State) (n offset : ℕ) (k : Kind) (v : Value) → IsMade p.core next (kept s)
       → accessed s (at n offset) k ≡ Ok v → StandsAlone p.core s n offset k
