@@ -12,14 +12,14 @@ use Rattle.ideal430.specs.Service.{Block}
 use Rattle.ideal430.specs.Settled.{Bytes}
 use Rattle.ideal430.specs.declared.state.IdealEnd.TheVariants.{Running}
 use Rattle.c_run.specs.Actions.{kept}
-use Rattle.c_run.specs.Runs.{Run, Outcome, Went, Action, and_then, ◌>>◌, counted, mark_by, mark}
+use Rattle.c_run.specs.Runs.{Run, Stop, Live, Ended as Over, NeedsReading as Lacks, Undefined, Wrong, Outcome, Went, Stopped, Action, and_then, ◌>>◌, counted, mark_by, mark}
 use Rattle.c_values.specs.declared.state.Saved.{Saved}
 use Rattle.c_values.specs.declared.state.State.{State}
-use Rattle.c_values.specs.declared.value.Value.TheVariants.{Undefined}
+use Rattle.c_values.specs.declared.value.Value.TheVariants.{Undefined as Missing}
 use Rattle.cells430.specs.Cells.{Cell, Word, Byte, Cells, Fits, Shape, Facts}
 use Rattle.cells430.specs.Stretch.{Course, outside, at, StepsTo, Leads, Comes, behind}
 use Rattle.cells430.proofs.Cells.{some_none, facts_fewer}
-use Rattle.cells430.proofs.Lift.{leads_step, leads_now}
+use Rattle.cells430.proofs.Lift.{leads_step, leads_now, leads_then}
 use Rattle.cells430.proofs.Services.{turns, checkpoints}
 use Rattle.core_tree.specs.declared.program.Core.{Core}
 use Rattle.ir.specs.declared.control.Temporary.{Temporary}
@@ -39,7 +39,7 @@ use Rattle.select430.specs.Frames.{temporaries_at}
 use Rattle.steps430.specs.Setting.{Setting, function_of, step_at, IsLaid}
 use Rattle.steps430.specs.Holds.{CallHolds}
 use Rattle.steps430.specs.Standing.{StandsAt, Stage}
-use Rattle.steps430.specs.Follows.{MakesMark, Follows, DoesStep}
+use Rattle.steps430.specs.Follows.{MakesMark, HasEnded, LacksReading, Follows, DoesStep}
 use Rattle.steps430.proofs.Moves.{From, from_do, level, with_regs, with_level}
 use Rattle.steps430.proofs.Outcomes.{depth_follows}
 use Rattle.steps430.proofs.Steps.{begins, falls, stands_now}
@@ -88,6 +88,43 @@ matches_now core s all own c lo hi segment sp ps r m st marks left y covered par
 -- ---- what follows a mark
 
 -- The machine makes a mark by its next instruction. Where the run ends with this mark its words match, and else it goes on.
+pub mark_by_follows : (p : Setting) (k : ℕ) (r : Run) (o : Outcome (Unit {0}) → Outcome Control) (segment segment2 sp2 : ℕ)
+    (ps ps2 rr r2 m : ℕ → ℕ) (st : Bytes) (left : List Reading) (y : Meter) (all own : Cells)
+    → Comes p.code p.low p.high (at segment ps rr m st (outside r.state.marks left) y) Running segment2 ps2 r2
+    (outside (r.state.marks + 1) (drop r.used p.readings)) all
+    → IsCovered p.core (kept r.state) own → ((b : ℕ) (x : Cell) → own b ≡ Some x → all b ≡ Some x) → Shape segment2 sp2 ps2 all
+    → r.state.block ≡ None → ((s : Stop) → o (Stopped s) ≡ Stopped s)
+    → ((n : ℕ) → (c : Control) × (q : Run) × (o (Went tt (record r { state = counted r.state; left = n })) ≡ Went c q)
+    × ((m2 : ℕ → ℕ) (st2 : Bytes) (y2 : Meter) → Facts p.code p.low p.high all m2 st2 → AreWords r2
+    → Leads k (at segment2 ps2 r2 m2 st2 (outside (r.state.marks + 1) (drop r.used p.readings)) y2) (StandsAt p c q)))
+    → Follows p (suc k) (o (mark_by r.left r)) (at segment ps rr m st (outside r.state.marks left) y)
+mark_by_follows p k r o segment segment2 sp2 ps ps2 rr r2 m st left y all own comes covered part shape closed stops more = from r.left
+  where
+    t : Ideal
+    t = at segment ps rr m st (outside r.state.marks left) y
+
+    u : Ideal
+    u = at segment2 ps2 r2 comes.memory comes.settled (outside (r.state.marks + 1) (drop r.used p.readings)) comes.meter
+
+    from : (budget : ℕ) → Follows p (suc k) (o (mark_by budget r)) t
+    from zero =
+        subst (λ (z : Outcome Control). Follows p (suc k) z t) (sym (stops (Live (counted r.state) r.used)))
+        (leads_now (suc k - 1) t (MakesMark p (counted r.state) r.used) (record {
+          next = u;
+          step = comes.step;
+          running = refl;
+          before = refl;
+          marks = refl;
+          taken = refl;
+          matches = matches_now p.core (counted r.state) all own p.code p.low p.high segment2 sp2 ps2 r2 comes.memory comes.settled
+              (r.state.marks + 1) (drop r.used p.readings) comes.meter covered part shape comes.facts closed;
+        }))
+    from (suc n) =
+        let g = more n in
+        subst (λ (z : Outcome Control). Follows p (suc k) z t) (sym g.2)
+        (leads_step k t u (StandsAt p g.0 g.1) comes.step (g.3 comes.memory comes.settled comes.meter comes.facts comes.words))
+
+-- the same where nothing else is done of the run
 pub mark_follows : (p : Setting) (k : ℕ) (r : Run) (go : Action Control) (segment segment2 sp2 : ℕ) (ps ps2 rr r2 m : ℕ → ℕ) (st : Bytes)
     (y : Meter) (all own : Cells)
     → Comes p.code p.low p.high (at segment ps rr m st (outside r.state.marks (drop r.used p.readings)) y) Running segment2 ps2 r2
@@ -99,35 +136,28 @@ pub mark_follows : (p : Setting) (k : ℕ) (r : Run) (go : Action Control) (segm
     → Leads k (at segment2 ps2 r2 m2 st2 (outside (r.state.marks + 1) (drop r.used p.readings)) y2) (StandsAt p c q)))
     → Follows p (suc k) ((mark >> go) r) (at segment ps rr m st (outside r.state.marks (drop r.used p.readings)) y)
 unfolding mark
-mark_follows p k r go segment segment2 sp2 ps ps2 rr r2 m st y all own comes covered part shape closed more = from r.left
-  where
-    t : Ideal
-    t = at segment ps rr m st (outside r.state.marks (drop r.used p.readings)) y
+mark_follows p k r go segment segment2 sp2 ps ps2 rr r2 m st y all own comes covered part shape closed more =
+    mark_by_follows p k r (λ x. and_then x (λ _. go)) segment segment2 sp2 ps ps2 rr r2 m st (drop r.used p.readings) y all own comes covered
+    part shape closed (λ s. refl) more
 
-    u : Ideal
-    u = at segment2 ps2 r2 comes.memory comes.settled (outside (r.state.marks + 1) (drop r.used p.readings)) comes.meter
-
-    from : (left : ℕ) → Follows p (suc k) (and_then (mark_by left r) (λ x. go)) t
-    from zero =
-        leads_now (suc k - 1) t (MakesMark p (counted r.state) r.used) (record {
-          next = u;
-          step = comes.step;
-          running = refl;
-          before = refl;
-          marks = refl;
-          taken = refl;
-          matches = matches_now p.core (counted r.state) all own p.code p.low p.high segment2 sp2 ps2 r2 comes.memory comes.settled
-              (r.state.marks + 1) (drop r.used p.readings) comes.meter covered part shape comes.facts closed;
-        })
-    from (suc n) =
-        let g = more n in
-        subst (λ (o : Outcome Control). Follows p (suc k) o t) (sym g.2)
-        (leads_step k t u (StandsAt p g.0 g.1) comes.step (g.3 comes.memory comes.settled comes.meter comes.facts comes.words))
+-- what follows after some instructions
+pub follows_after : (p : Setting) (j k : ℕ) (o : Outcome Control) (t : Ideal) → Leads j t (λ u. Follows p (suc k) o u)
+    → Follows p (j + suc k) o t
+follows_after p j k (Went c q) t h = leads_then j (suc k) t (Follows p (suc k) (Went c q)) (StandsAt p c q) h (λ u l. l)
+follows_after p j k (Stopped (Live s used)) t h =
+    let e : j + (suc k - 1) ≡ j + suc k - 1 = omega arith in
+    subst (λ (i : ℕ). Leads i t (MakesMark p s used)) e
+    (leads_then j (suc k - 1) t (Follows p (suc k) (Stopped (Live s used))) (MakesMark p s used) h (λ u l. l))
+follows_after p j k (Stopped (Over kind s used)) t h =
+    leads_then j (suc k) t (Follows p (suc k) (Stopped (Over kind s used))) (HasEnded p kind s used) h (λ u l. l)
+follows_after p j k (Stopped Lacks) t h = leads_then j (suc k) t (Follows p (suc k) (Stopped Lacks)) LacksReading h (λ u l. l)
+follows_after p j k (Stopped (Undefined rule node)) t h = tt
+follows_after p j k (Stopped Wrong) t h = tt
 
 -- ---- steps that do nothing else
 
 -- one mark more leaves what stands
-counted_stage : (p : Setting) (s : State) (next : ℕ) (frames : List Frame) (all own : Cells) (segment base sp : ℕ) (ps r m r2 m2 : ℕ → ℕ)
+pub counted_stage : (p : Setting) (s : State) (next : ℕ) (frames : List Frame) (all own : Cells) (segment base sp : ℕ) (ps r m r2 m2 : ℕ → ℕ)
     (st st2 : Bytes) → r2 1 ≡ sp → AreWords r2 → Facts p.code p.low p.high all m2 st2
     → Stage p s next frames all own segment base sp ps r m st → Stage p (counted s) next frames all own segment base sp ps r2 m2 st2
 counted_stage p s next frames all own segment base sp ps r m r2 m2 st st2 e wide facts h = record {
@@ -178,11 +208,11 @@ module _ (p : Setting) (lay : IsLaid p) where
       (checkpoints p.code p.low p.high segment sp ps stage.ground all stage.shape rr m st (outside r.state.marks (drop r.used p.readings))
       y stage.facts stage.words c.0 stage.stack)
       stage.covered stage.part stage.shape stage.no_block
-      (λ n. (At f (q + 1) first (temporary.Value Undefined ∷ ts) ls, record r { state = counted r.state; left = n }, refl,
+      (λ n. (At f (q + 1) first (temporary.Value Missing ∷ ts) ls, record r { state = counted r.state; left = n }, refl,
       (λ m2 st2 y2 facts wide.
-      stands_now p lay 0 f q (q + 1) first ts (temporary.Value Undefined ∷ ts) ls (record r { state = counted r.state; left = n }) all own
+      stands_now p lay 0 f q (q + 1) first ts (temporary.Value Missing ∷ ts) ls (record r { state = counted r.state; left = n }) all own
       segment sp ps (behind rr) m2 st2 y2
-      (with_level p (counted r.state) r.next all own segment sp sp ps f q (q + 1) first ts (temporary.Value Undefined ∷ ts) ls (behind rr)
+      (with_level p (counted r.state) r.next all own segment sp sp ps f q (q + 1) first ts (temporary.Value Missing ∷ ts) ls (behind rr)
       m2 st2 (λ a k. record { words = k.words; room = omega arith; held = (k.words (length ts) (omega arith), k.held) })
       (counted_stage p r.state r.next (level f q first ts ∷ ls) all own segment sp sp ps rr m (behind rr) m2 st st2 stage.stack wide facts
       stage)) low c.1)))))
