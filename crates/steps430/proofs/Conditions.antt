@@ -84,9 +84,11 @@ module _ (p : Setting) (Q : Ideal → Type 0) (n : ℕ) (s : State) (next : ℕ)
       let a : ℕ = r 0 + 2 + 2 + 2 in
       let r2 : ℕ → ℕ = set_reg r1 0 a in
       let to : jump_target (r1 0 + 2) (pos 1) ≡ a = omega arith in
-      sets p.code p.low p.high segment sp ps h.ground Q (suc (suc n)) all h.shape r m st x y Mov false (Constant ConstantOne) (ToReg 12)
+      sets p.code p.low p.high segment sp ps h.ground Q (suc (suc n)) all h.shape r m st x y Mov false (Constant ConstantOne)
+      (ToReg 12)
       (Given 1) (InRegister 12) r1 h.facts h.words c.0 generated to_register refl tt tt refl h.stack (λ st2 y2 facts wide.
-      jumps p.code p.low p.high segment sp ps h.ground Q (suc n) all h.shape r1 m st2 x y2 cond (pos 1) true a facts wide c.1.0 h.stack
+      jumps p.code p.low p.high segment sp ps h.ground Q (suc n) all h.shape r1 m st2 x y2 cond
+      (pos 1) true a facts wide c.1.0 h.stack
       is to (omega arith) (λ st3 y3 facts2 wide2.
       leads_weaker n (suc n) _ Q Q (omega arith) (λ u k. k)
       (go r2 st3 y3 refl (record { code = c.1.1.1; size = omega arith })
@@ -101,9 +103,11 @@ module _ (p : Setting) (Q : Ideal → Type 0) (n : ℕ) (s : State) (next : ℕ)
       let r2 : ℕ → ℕ = set_reg r1 0 (r 0 + 2 + 2) in
       let r3 : ℕ → ℕ = set_reg (set_reg r2 0 (r 0 + 2 + 2 + 2)) 12 0 in
       let to : jump_target (r1 0 + 2) (pos 1) ≡ a = omega arith in
-      sets p.code p.low p.high segment sp ps h.ground Q (suc (suc n)) all h.shape r m st x y Mov false (Constant ConstantOne) (ToReg 12)
+      sets p.code p.low p.high segment sp ps h.ground Q (suc (suc n)) all h.shape r m st x y Mov false (Constant ConstantOne)
+      (ToReg 12)
       (Given 1) (InRegister 12) r1 h.facts h.words c.0 generated to_register refl tt tt refl h.stack (λ st2 y2 facts wide.
-      jumps p.code p.low p.high segment sp ps h.ground Q (suc n) all h.shape r1 m st2 x y2 cond (pos 1) false a facts wide c.1.0 h.stack
+      jumps p.code p.low p.high segment sp ps h.ground Q (suc n) all h.shape r1 m st2 x y2 cond
+      (pos 1) false a facts wide c.1.0 h.stack
       is to (omega arith) (λ st3 y3 facts2 wide2.
       sets p.code p.low p.high segment sp ps h.ground Q n all h.shape r2 m st3 x y3 Mov false (Constant Zero) (ToReg 12)
       (Given 0) (InRegister 12) r3 facts2 wide2 c.1.1.0 generated to_register refl tt tt refl h.stack (λ st4 y4 facts3 wide3.
@@ -120,7 +124,8 @@ module _ (p : Setting) (Q : Ideal → Type 0) (n : ℕ) (s : State) (next : ℕ)
       let r2 : ℕ → ℕ = set_reg (set_reg r 0 (r 0 + 2)) 2 (difference_status false (r 2) false (r 12) (r 13)) in
       sets p.code p.low p.high segment sp ps h.ground Q n all h.shape r m st x y Cmp false (Reg 13) (ToReg 12) (InRegister 13)
       (InRegister 12) r2 h.facts h.words here in_register to_register refl tt tt refl h.stack
-      (λ st2 y2 facts wide. go r2 st2 y2 refl refl (with_regs p s next all own segment base sp ps frames r m r2 st st2 h.stack wide facts h))
+      (λ st2 y2 facts wide. go r2 st2 y2 refl refl
+      (with_regs p s next all own segment base sp ps frames r m r2 st st2 h.stack wide facts h))
 
   pub compares_back : Stage p s next frames all own segment base sp ps r m st
       → Here p.code p.low p.high (r 0) (Two Cmp false (Reg 12) (ToReg 13))
@@ -131,4 +136,5 @@ module _ (p : Setting) (Q : Ideal → Type 0) (n : ℕ) (s : State) (next : ℕ)
       let r2 : ℕ → ℕ = set_reg (set_reg r 0 (r 0 + 2)) 2 (difference_status false (r 2) false (r 13) (r 12)) in
       sets p.code p.low p.high segment sp ps h.ground Q n all h.shape r m st x y Cmp false (Reg 12) (ToReg 13) (InRegister 12)
       (InRegister 13) r2 h.facts h.words here in_register to_register refl tt tt refl h.stack
-      (λ st2 y2 facts wide. go r2 st2 y2 refl refl (with_regs p s next all own segment base sp ps frames r m r2 st st2 h.stack wide facts h))
+      (λ st2 y2 facts wide. go r2 st2 y2 refl refl
+      (with_regs p s next all own segment base sp ps frames r m r2 st st2 h.stack wide facts h))

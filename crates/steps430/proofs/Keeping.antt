@@ -16,7 +16,8 @@ use Rattle.steps430.specs.Standing.{IsFrame, ReturnsHere, ReturnsBelow, Stacked,
 
 -- ---- temporaries
 
-pub held_off : (f : Cells) (a : ℕ) (x : Cell) (b : ℕ) (d : Bool) (o : Option ℕ) → b ≢ a → IsHeld f b d o → IsHeld (set_cell f a x) b d o
+pub held_off : (f : Cells) (a : ℕ) (x : Cell) (b : ℕ) (d : Bool) (o : Option ℕ) → b ≢ a → IsHeld f b d o
+    → IsHeld (set_cell f a x) b d o
 held_off f a x b true o n h = (h.0, set_cell-other f a b x n ∙ h.1, h.2)
 held_off f a x b false o n h = (h.0, set_cell-other f a b x n ∙ h.1)
 
@@ -41,7 +42,8 @@ call_off f alive fn sp ts a x apart h =
 
 -- a temporary is put on top of others
 pub call_push : (f : Cells) (alive : List Placed) (fn : IrFunction) (sp : ℕ) (t : Temporary) (us : List Temporary) (w : ℕ)
-    → temporaries_at fn + 2 * length us + 2 ≤ fn.frame → IsHeld (set_cell f (sp + temporaries_at fn + 2 * length us) (Word (Some w)))
+    → temporaries_at fn + 2 * length us + 2 ≤ fn.frame
+    → IsHeld (set_cell f (sp + temporaries_at fn + 2 * length us) (Word (Some w)))
     (sp + temporaries_at fn + 2 * length us) (is_defined t) (temporary_code alive t)
     → CallHolds f alive fn sp us
     → CallHolds (set_cell f (sp + temporaries_at fn + 2 * length us) (Word (Some w))) alive fn sp (t ∷ us)
@@ -49,7 +51,11 @@ call_push f alive fn sp t us w room here h =
     record {
       words = λ d k. word d k (cases_eq d (length us));
       room = omega arith;
-      held = (here, all_held_off f alive (sp + temporaries_at fn + 2 * length us) (Word (Some w)) (sp + temporaries_at fn) us (λ d k. omega arith) h.held);
+      held = (
+        here,
+        all_held_off f alive (sp + temporaries_at fn + 2 * length us) (Word (Some w)) (sp + temporaries_at fn) us
+            (λ d k. omega arith) h.held,
+      );
     }
   where
     word : (d : ℕ) → temporaries_at fn + 2 * d + 2 ≤ fn.frame → ((d ≡ length us) ⊎ (d ≡ length us → ⊥))
@@ -93,9 +99,15 @@ pub here_off : (f : Cells) (a : ℕ) (x : Cell) (to g sp end : ℕ) → sp ≤ e
     → ReturnsHere (set_cell f a x) to g end
 here_off f a x to g sp end l off h =
     let below = h.below in
-    record { word = set_cell-other f a end x (off_at a g sp end l (omega arith) off) ∙ h.word; below = h.below; no_link = h.no_link }
+    record {
+      word = set_cell-other f a end x (off_at a g sp end l (omega arith) off)
+          ∙ h.word;
+      below = h.below;
+      no_link = h.no_link;
+    }
 
-pub below_off : (f own : Cells) (a : ℕ) (x : Cell) (to g sp end older b : ℕ) → sp ≤ end → Off a g sp → ReturnsBelow f own to g end older b
+pub below_off : (f own : Cells) (a : ℕ) (x : Cell) (to g sp end older b : ℕ) → sp ≤ end → Off a g sp
+    → ReturnsBelow f own to g end older b
     → ReturnsBelow (set_cell f a x) own to g end older b
 below_off f own a x to g sp end older b l off h =
     let top = h.top in let high = h.high in
@@ -125,7 +137,11 @@ module _ (p : Setting) (own : Cells) (a : ℕ) (x : Cell) where
           → ((ReturnsHere (set_cell all a x) (return_to p ls) g end × Stacked p (set_cell all a x) own g (end + 2) ls cs)
           ⊎ ((older : ℕ) × (b : ℕ) × ReturnsBelow (set_cell all a x) own (return_to p ls) g end older b
           × Stacked p (set_cell all a x) own older (b + 2) ls cs))
-      from more (inl k) = inl (here_off all a x (return_to p ls) g sp end (omega arith) off k.0, more g (end + 2) (off_on a g sp (end + 2) (omega arith) off) k.1)
+      from more (inl k) = inl (
+        here_off all a x (return_to p ls) g sp end (omega arith) off k.0,
+        more g (end + 2)
+            (off_on a g sp (end + 2) (omega arith) off) k.1,
+      )
       from more (inr k) = inr (
         k.0,
         k.1,
@@ -145,7 +161,8 @@ module _ (p : Setting) (own : Cells) (a : ℕ) (x : Cell) where
       end = sp + (function_of p l.function).frame
 
       mine : end + 2 ≤ segment_top g → CallHolds (set_cell f a x) alive (function_of p l.function) c.frame l.temporaries
-      mine top = let e = s.0.frame in call_off f alive (function_of p l.function) c.frame l.temporaries a x (λ b k j. off_at a g sp b (omega arith) (omega arith) off) h.0
+      mine top = let e = s.0.frame in call_off f alive (function_of p l.function) c.frame l.temporaries a x
+          (λ b k j. off_at a g sp b (omega arith) (omega arith) off) h.0
 
       from : ((g2 sp2 : ℕ) → Off a g2 sp2 → Stacked p all own g2 sp2 ls cs → Holds p.ir (set_cell f a x) alive ls cs)
           → ((ReturnsHere all (return_to p ls) g end × Stacked p all own g (end + 2) ls cs)

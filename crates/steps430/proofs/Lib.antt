@@ -16,3 +16,4 @@ pub mod Marks
 pub mod Conditions
 pub mod Orders
 pub mod Numbers
+pub mod Services

@@ -70,7 +70,8 @@ own_shape segment sp ps all own part h = record {
 
 -- the words match a state whose cells stand, where no block is open
 pub matches_now : (core : Core) (s : State) (all own : Cells) (c : ℕ → ℕ) (lo hi segment sp : ℕ) (ps r m : ℕ → ℕ) (st : Bytes)
-    (marks : ℕ) (left : List Reading) (y : Meter) → IsCovered core (kept s) own → ((b : ℕ) (x : Cell) → own b ≡ Some x → all b ≡ Some x)
+    (marks : ℕ) (left : List Reading) (y : Meter) → IsCovered core (kept s) own → ((b : ℕ) (x : Cell) → own b ≡ Some x
+    → all b ≡ Some x)
     → Shape segment sp ps all → Facts c lo hi all m st → s.block ≡ None
     → MachineMatches core s (at segment ps r m st (outside marks left) y)
 matches_now core s all own c lo hi segment sp ps r m st marks left y covered part shape facts closed =
@@ -98,7 +99,8 @@ pub mark_by_follows : (p : Setting) (k : ℕ) (r : Run) (o : Outcome (Unit {0}) 
     × ((m2 : ℕ → ℕ) (st2 : Bytes) (y2 : Meter) → Facts p.code p.low p.high all m2 st2 → AreWords r2
     → Leads k (at segment2 ps2 r2 m2 st2 (outside (r.state.marks + 1) (drop r.used p.readings)) y2) (StandsAt p c q)))
     → Follows p (suc k) (o (mark_by r.left r)) (at segment ps rr m st (outside r.state.marks left) y)
-mark_by_follows p k r o segment segment2 sp2 ps ps2 rr r2 m st left y all own comes covered part shape closed stops more = from r.left
+mark_by_follows p k r o segment segment2 sp2 ps ps2 rr r2 m st left y all own comes covered part shape closed stops more = from
+    r.left
   where
     t : Ideal
     t = at segment ps rr m st (outside r.state.marks left) y
@@ -116,7 +118,8 @@ mark_by_follows p k r o segment segment2 sp2 ps ps2 rr r2 m st left y all own co
           before = refl;
           marks = refl;
           taken = refl;
-          matches = matches_now p.core (counted r.state) all own p.code p.low p.high segment2 sp2 ps2 r2 comes.memory comes.settled
+          matches = matches_now p.core
+              (counted r.state) all own p.code p.low p.high segment2 sp2 ps2 r2 comes.memory comes.settled
               (r.state.marks + 1) (drop r.used p.readings) comes.meter covered part shape comes.facts closed;
         }))
     from (suc n) =
@@ -125,7 +128,8 @@ mark_by_follows p k r o segment segment2 sp2 ps ps2 rr r2 m st left y all own co
         (leads_step k t u (StandsAt p g.0 g.1) comes.step (g.3 comes.memory comes.settled comes.meter comes.facts comes.words))
 
 -- the same where nothing else is done of the run
-pub mark_follows : (p : Setting) (k : ℕ) (r : Run) (go : Action Control) (segment segment2 sp2 : ℕ) (ps ps2 rr r2 m : ℕ → ℕ) (st : Bytes)
+pub mark_follows : (p : Setting) (k : ℕ) (r : Run) (go : Action Control) (segment segment2 sp2 : ℕ) (ps ps2 rr r2 m : ℕ
+    → ℕ) (st : Bytes)
     (y : Meter) (all own : Cells)
     → Comes p.code p.low p.high (at segment ps rr m st (outside r.state.marks (drop r.used p.readings)) y) Running segment2 ps2 r2
     (outside (r.state.marks + 1) (drop r.used p.readings)) all
@@ -137,7 +141,8 @@ pub mark_follows : (p : Setting) (k : ℕ) (r : Run) (go : Action Control) (segm
     → Follows p (suc k) ((mark >> go) r) (at segment ps rr m st (outside r.state.marks (drop r.used p.readings)) y)
 unfolding mark
 mark_follows p k r go segment segment2 sp2 ps ps2 rr r2 m st y all own comes covered part shape closed more =
-    mark_by_follows p k r (λ x. and_then x (λ _. go)) segment segment2 sp2 ps ps2 rr r2 m st (drop r.used p.readings) y all own comes covered
+    mark_by_follows p k r (λ x. and_then x
+    (λ _. go)) segment segment2 sp2 ps ps2 rr r2 m st (drop r.used p.readings) y all own comes covered
     part shape closed (λ s. refl) more
 
 -- what follows after some instructions
@@ -157,9 +162,11 @@ follows_after p j k (Stopped Wrong) t h = tt
 -- ---- steps that do nothing else
 
 -- one mark more leaves what stands
-pub counted_stage : (p : Setting) (s : State) (next : ℕ) (frames : List Frame) (all own : Cells) (segment base sp : ℕ) (ps r m r2 m2 : ℕ → ℕ)
+pub counted_stage : (p : Setting) (s : State) (next : ℕ) (frames : List Frame) (all own : Cells) (segment base sp : ℕ)
+    (ps r m r2 m2 : ℕ → ℕ)
     (st st2 : Bytes) → r2 1 ≡ sp → AreWords r2 → Facts p.code p.low p.high all m2 st2
-    → Stage p s next frames all own segment base sp ps r m st → Stage p (counted s) next frames all own segment base sp ps r2 m2 st2
+    → Stage p s next frames all own segment base sp ps r m st
+    → Stage p (counted s) next frames all own segment base sp ps r2 m2 st2
 counted_stage p s next frames all own segment base sp ps r m r2 m2 st st2 e wide facts h = record {
   ground = h.ground;
   shape = h.shape;
@@ -183,20 +190,31 @@ module _ (p : Setting) (lay : IsLaid p) where
       begins p lay 1 (act p.ir p.readings node step.Turn f q first ts ls r) step.Turn f q first node ts ls r t e h
       (λ all own segment sp ps rr m st y stage low stands code.
       let end : ℕ = step_at p f (q + 1) in
-      let c = from_do p f (rr 0) (One Call false (Immediate 65286)) [] end (falls p lay step.Turn f q node (rr 0) tt stands code) in
+      let c = from_do p f (rr 0) (One Call false (Immediate 65286)) [] end (falls p lay step.Turn f q node
+      (rr 0) tt stands code) in
       mark_follows p 0 r _ segment segment sp ps ps rr (behind rr) m st y all own
-      (turns p.code p.low p.high segment sp ps stage.ground all stage.shape rr m st (outside r.state.marks (drop r.used p.readings)) y
+      (turns p.code p.low p.high segment sp ps stage.ground all stage.shape rr m st (outside r.state.marks
+      (drop r.used p.readings)) y
       stage.facts stage.words c.0 stage.stack)
       stage.covered stage.part stage.shape stage.no_block
-      (λ n. (At f (q + 1) first ts ls, record r { state = counted r.state; left = n }, refl, (λ m2 st2 y2 facts wide.
-      stands_now p lay 0 f q (q + 1) first ts ts ls (record r { state = counted r.state; left = n }) all own segment sp ps (behind rr) m2 st2 y2
-      (with_level p (counted r.state) r.next all own segment sp sp ps f q (q + 1) first ts ts ls (behind rr) m2 st2 (λ a k. k)
-      (counted_stage p r.state r.next (level f q first ts ∷ ls) all own segment sp sp ps rr m (behind rr) m2 st st2 stage.stack wide facts
-      stage)) low c.1))))
+      (λ n. (
+        At f (q + 1) first ts ls,
+        record r { state = counted r.state; left = n },
+        refl,
+        (λ m2 st2 y2 facts wide.
+            stands_now p lay 0 f q (q + 1) first ts ts ls (record r { state = counted r.state; left = n }) all own segment sp ps
+            (behind rr) m2 st2 y2
+            (with_level p (counted r.state) r.next all own segment sp sp ps f q (q + 1) first ts ts ls (behind rr) m2 st2
+            (λ a k. k)
+            (counted_stage p r.state r.next (level f q first ts ∷ ls) all own segment sp sp ps rr m
+            (behind rr) m2 st st2 stage.stack wide facts
+            stage)) low c.1),
+      )))
 
   pub checkpoint_does : (d : ℕ) → DoesStep p 1 (step.Checkpoint d)
   checkpoint_does d f q first ts ls node r t e h =
-      begins p lay 1 (act p.ir p.readings node (step.Checkpoint d) f q first ts ls r) (step.Checkpoint d) f q first node ts ls r t e h
+      begins p lay 1 (act p.ir p.readings node (step.Checkpoint d) f q first ts ls r)
+      (step.Checkpoint d) f q first node ts ls r t e h
       (λ all own segment sp ps rr m st y stage low stands code.
       depth_follows p 1 _ d ts _ r (λ depth.
       let fn : IrFunction = function_of p f in
@@ -205,14 +223,22 @@ module _ (p : Setting) (lay : IsLaid p) where
       let c = from_do p f (rr 0) (One Call false (Immediate 65308)) [] end
       (falls p lay (step.Checkpoint d) f q node (rr 0) tt stands code) in
       mark_follows p 0 r _ segment segment sp ps ps rr (behind rr) m st y all own
-      (checkpoints p.code p.low p.high segment sp ps stage.ground all stage.shape rr m st (outside r.state.marks (drop r.used p.readings))
+      (checkpoints p.code p.low p.high segment sp ps stage.ground all stage.shape rr m st (outside r.state.marks
+      (drop r.used p.readings))
       y stage.facts stage.words c.0 stage.stack)
       stage.covered stage.part stage.shape stage.no_block
-      (λ n. (At f (q + 1) first (temporary.Value Missing ∷ ts) ls, record r { state = counted r.state; left = n }, refl,
-      (λ m2 st2 y2 facts wide.
-      stands_now p lay 0 f q (q + 1) first ts (temporary.Value Missing ∷ ts) ls (record r { state = counted r.state; left = n }) all own
-      segment sp ps (behind rr) m2 st2 y2
-      (with_level p (counted r.state) r.next all own segment sp sp ps f q (q + 1) first ts (temporary.Value Missing ∷ ts) ls (behind rr)
-      m2 st2 (λ a k. record { words = k.words; room = omega arith; held = (k.words (length ts) (omega arith), k.held) })
-      (counted_stage p r.state r.next (level f q first ts ∷ ls) all own segment sp sp ps rr m (behind rr) m2 st st2 stage.stack wide facts
-      stage)) low c.1)))))
+      (λ n. (
+        At f (q + 1) first (temporary.Value Missing ∷ ts) ls,
+        record r { state = counted r.state; left = n },
+        refl,
+        (λ m2 st2 y2 facts wide.
+            stands_now p lay 0 f q (q + 1) first ts (temporary.Value Missing ∷ ts) ls
+            (record r { state = counted r.state; left = n }) all own
+            segment sp ps (behind rr) m2 st2 y2
+            (with_level p (counted r.state) r.next all own segment sp sp ps f q (q + 1) first ts (temporary.Value Missing ∷ ts) ls
+            (behind rr)
+            m2 st2 (λ a k. record { words = k.words; room = omega arith; held = (k.words (length ts) (omega arith), k.held) })
+            (counted_stage p r.state r.next (level f q first ts ∷ ls) all own segment sp sp ps rr m
+            (behind rr) m2 st st2 stage.stack wide facts
+            stage)) low c.1),
+      ))))

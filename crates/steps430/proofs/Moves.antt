@@ -65,8 +65,10 @@ pub record IsTop (all own : Cells) (alive : List Alive) (fn : IrFunction) (segme
   pub clear : (b : ℕ) → sp + temporaries_at fn ≤ b → b < sp + fn.frame + 2 → own b ≡ None
   pub holds : CallHolds all alive fn sp ts
 
-pub top_of : (p : Setting) (all own : Cells) (alive : List Alive) (segment sp f q first : ℕ) (ts : List Temporary) (ls : List Frame)
-    (cs : List Call) → Stacked p all own segment sp (level f q first ts ∷ ls) cs → Holds p.ir all alive (level f q first ts ∷ ls) cs
+pub top_of : (p : Setting) (all own : Cells) (alive : List Alive) (segment sp f q first : ℕ) (ts : List Temporary)
+    (ls : List Frame)
+    (cs : List Call) → Stacked p all own segment sp (level f q first ts ∷ ls) cs
+    → Holds p.ir all alive (level f q first ts ∷ ls) cs
     → IsTop all own alive (function_of p f) segment sp ts
 top_of p all own alive segment sp f q first ts ls [] s h = absurd s
 top_of p all own alive segment sp f q first ts ls (c ∷ cs) s h =
@@ -81,14 +83,16 @@ top_of p all own alive segment sp f q first ts ls (c ∷ cs) s h =
     end = sp + (function_of p f).frame
 
     top : ((ReturnsHere all (return_to p ls) segment end × Stacked p all own segment (end + 2) ls cs)
-        ⊎ ((older : ℕ) × (b : ℕ) × ReturnsBelow all own (return_to p ls) segment end older b × Stacked p all own older (b + 2) ls cs))
+        ⊎ ((older : ℕ) × (b : ℕ) × ReturnsBelow all own (return_to p ls) segment end older b
+        × Stacked p all own older (b + 2) ls cs))
         → end + 2 ≤ segment_top segment
     top (inl k) = k.0.below
     top (inr k) = let e = k.2.top in omega arith
 
 -- the youngest call at another place, with other temporaries
 pub stacked_at : (p : Setting) (all own : Cells) (segment sp f q q2 first : ℕ) (ts us : List Temporary) (ls : List Frame)
-    (cs : List Call) → Stacked p all own segment sp (level f q first ts ∷ ls) cs → Stacked p all own segment sp (level f q2 first us ∷ ls) cs
+    (cs : List Call) → Stacked p all own segment sp (level f q first ts ∷ ls) cs
+    → Stacked p all own segment sp (level f q2 first us ∷ ls) cs
 stacked_at p all own segment sp f q q2 first ts us ls [] h = h
 stacked_at p all own segment sp f q q2 first ts us ls (c ∷ cs) h = (
   record {
@@ -139,9 +143,11 @@ module _ (p : Setting) (own : Cells) (alive : List Alive) (all : Cells) (segment
       end = sp + (function_of p f).frame
 
       from : ((ReturnsHere all (return_to p ls) segment end × Stacked p all own segment (end + 2) ls cs)
-          ⊎ ((older : ℕ) × (b : ℕ) × ReturnsBelow all own (return_to p ls) segment end older b × Stacked p all own older (b + 2) ls cs))
+          ⊎ ((older : ℕ) × (b : ℕ) × ReturnsBelow all own (return_to p ls) segment end older b
+          × Stacked p all own older (b + 2) ls cs))
           → ((ReturnsHere after (return_to p ls) segment end × Stacked p after own segment (end + 2) ls cs)
-          ⊎ ((older : ℕ) × (b : ℕ) × ReturnsBelow after own (return_to p ls) segment end older b × Stacked p after own older (b + 2) ls cs))
+          ⊎ ((older : ℕ) × (b : ℕ) × ReturnsBelow after own (return_to p ls) segment end older b
+          × Stacked p after own older (b + 2) ls cs))
       from (inl k) = inl (
         here_off all a (Word (Some w)) (return_to p ls) segment (a + 1) end (omega arith) (Lower (omega arith) (omega arith)) k.0,
         stack_off p own a (Word (Some w)) all segment (end + 2) ls cs (Lower (omega arith) (omega arith)) k.1,
@@ -151,7 +157,8 @@ module _ (p : Setting) (own : Cells) (alive : List Alive) (all : Cells) (segment
           inr (
             k.0,
             k.1,
-            below_off all own a (Word (Some w)) (return_to p ls) segment (a + 1) end k.0 k.1 (omega arith) (Lower (omega arith) (omega arith)) k.2,
+            below_off all own a (Word (Some w)) (return_to p ls) segment (a + 1) end k.0 k.1 (omega arith) (Lower
+                (omega arith) (omega arith)) k.2,
             stack_off p own a (Word (Some w)) all k.0 (k.1 + 2) ls cs (Higher (omega arith)) k.3,
           )
 
@@ -169,9 +176,11 @@ module _ (p : Setting) (own : Cells) (alive : List Alive) (all : Cells) (segment
           (subst (λ (b : ℕ). CallHolds all alive (function_of p f) b us) s.0.frame h.0))
 
       from : ((ReturnsHere all (return_to p ls) segment end × Stacked p all own segment (end + 2) ls cs)
-          ⊎ ((older : ℕ) × (b : ℕ) × ReturnsBelow all own (return_to p ls) segment end older b × Stacked p all own older (b + 2) ls cs))
+          ⊎ ((older : ℕ) × (b : ℕ) × ReturnsBelow all own (return_to p ls) segment end older b
+          × Stacked p all own older (b + 2) ls cs))
           → Holds p.ir after alive ls cs
-      from (inl k) = holds_off p own a (Word (Some w)) all all alive segment (end + 2) ls cs (Lower (omega arith) (omega arith)) k.1 h.1
+      from (inl k) = holds_off p own a (Word (Some w)) all all alive segment (end + 2) ls cs (Lower (omega arith)
+          (omega arith)) k.1 h.1
       from (inr k) =
           let next = k.2.next in
           holds_off p own a (Word (Some w)) all all alive k.0 (k.1 + 2) ls cs (Higher (omega arith)) k.3 h.1
@@ -235,7 +244,8 @@ module _ (p : Setting) (s : State) (next : ℕ) (all own : Cells) (segment base 
 
 module _ (p : Setting) (Q : Ideal → Type 0) where
   -- a word comes into a register
-  pub brings_word : (n : ℕ) (s : State) (next : ℕ) (frames : List Frame) (all own : Cells) (segment base sp : ℕ) (ps r m : ℕ → ℕ) (st : Bytes)
+  pub brings_word : (n : ℕ) (s : State) (next : ℕ) (frames : List Frame) (all own : Cells) (segment base sp : ℕ) (ps r m : ℕ
+      → ℕ) (st : Bytes)
       (x : Course) (y : Meter) (o a k w : ℕ) → Stage p s next frames all own segment base sp ps r m st
       → Here p.code p.low p.high (r 0) (Two Mov false (Indexed 1 o) (ToReg k)) → sp + o ≡ a → a < 65536 → 4 ≤ k
       → all a ≡ Some (Word (Some w))
@@ -256,7 +266,8 @@ module _ (p : Setting) (Q : Ideal → Type 0) where
       (from_at h.stack (omega arith) (omega arith)) in
       let effect : two_given Mov false (Indexed 1 o) (ToReg k) r m (InRegister k) w ≡ Sets r2 =
       simp (ne_eqb k 2 n2, ne_eqb k 3 n3) in
-      loads p.code p.low p.high segment sp ps h.ground Q n all h.shape r m st x y Mov (Indexed 1 o) (ToReg k) a (InRegister k) w r2
+      loads p.code p.low p.high segment sp ps h.ground Q n all h.shape r m st x y Mov (Indexed 1 o) (ToReg k) a
+      (InRegister k) w r2
       h.facts h.words here source to_register cell effect tt pc stack
       (λ st2 y2 facts wide. more st2 y2 (with_regs p s next all own segment base sp ps frames r m r2 st st2 stack wide facts h))
 
@@ -290,7 +301,8 @@ module _ (p : Setting) (Q : Ideal → Type 0) where
       (to_at h.stack (omega arith) (omega arith)) in
       let effect : two_at Mov false (Reg k) (ToIndexed 1 o) r m (InRegister k) (InMemory a) ≡ Stores r2 a w =
       ap (λ (v : ℕ). Stores r2 a v) is in
-      stores p.code p.low p.high segment sp ps h.ground Q n all h.shape r m st x y (Reg k) (ToIndexed 1 o) (InRegister k) r2 a w old.0
+      stores p.code p.low p.high segment sp ps h.ground Q n all h.shape r m st x y (Reg k) (ToIndexed 1 o)
+      (InRegister k) r2 a w old.0
       h.facts h.words here in_register target effect tt old.1 (omega arith) (omega arith) refl h.stack
       (λ m2 st2 y2 facts wide. more (set_cell all a (Word (Some w))) m2 st2 y2 (record {
         ground = h.ground;
@@ -306,6 +318,7 @@ module _ (p : Setting) (Q : Ideal → Type 0) where
         whole = h.whole;
         outputs = λ b l u. let other : b ≢ a = omega arith in set_cell-other all a b (Word (Some w)) other ∙ h.outputs b l u;
         stacked = pushed_stack p own alive all segment sp f q q2 first t us ls w (omega arith) room (reverse s.calls) h.stacked;
-        holds = pushed_holds p own alive all segment sp f q q2 first t us ls w (omega arith) room (reverse s.calls) code h.stacked h.holds;
+        holds = pushed_holds p own alive all segment sp f q q2 first t us ls w (omega arith) room
+            (reverse s.calls) code h.stacked h.holds;
         no_block = h.no_block;
       }))

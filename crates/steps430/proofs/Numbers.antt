@@ -87,7 +87,8 @@ module _ (p : Setting) (Q : Ideal → Type 0) (n : ℕ) (s : State) (next : ℕ)
       (λ st2 y2 facts wide. more (after Add 4 w) st2 y2 refl refl
       (with_regs p s next all own segment base sp ps frames r m (after Add 4 w) st st2 h.stack wide facts h))
   operates_number i src w Adds (Generated g) h here more =
-      sets p.code p.low p.high segment sp ps h.ground Q n all h.shape r m st x y Add false (Constant g) (ToReg 12) (Given (constant_of g))
+      sets p.code p.low p.high segment sp ps h.ground Q n all h.shape r m st x y Add false (Constant g) (ToReg 12) (Given
+      (constant_of g))
       (InRegister 12) (after Add 2 (constant_of g)) h.facts h.words here generated to_register refl tt tt refl h.stack
       (λ st2 y2 facts wide. more (after Add 2 (constant_of g)) st2 y2 refl refl
       (with_regs p s next all own segment base sp ps frames r m (after Add 2 (constant_of g)) st st2 h.stack wide facts h))
@@ -97,7 +98,8 @@ module _ (p : Setting) (Q : Ideal → Type 0) (n : ℕ) (s : State) (next : ℕ)
       (λ st2 y2 facts wide. more (after Xor 4 w) st2 y2 refl refl
       (with_regs p s next all own segment base sp ps frames r m (after Xor 4 w) st st2 h.stack wide facts h))
   operates_number i src w Turns (Generated g) h here more =
-      sets p.code p.low p.high segment sp ps h.ground Q n all h.shape r m st x y Xor false (Constant g) (ToReg 12) (Given (constant_of g))
+      sets p.code p.low p.high segment sp ps h.ground Q n all h.shape r m st x y Xor false (Constant g) (ToReg 12) (Given
+      (constant_of g))
       (InRegister 12) (after Xor 2 (constant_of g)) h.facts h.words here generated to_register refl tt tt refl h.stack
       (λ st2 y2 facts wide. more (after Xor 2 (constant_of g)) st2 y2 refl refl
       (with_regs p s next all own segment base sp ps frames r m (after Xor 2 (constant_of g)) st st2 h.stack wide facts h))
@@ -108,7 +110,8 @@ member_fit : (alive : List Placed) (l : Location) (offset w v : ℕ) → HasCode
     → v ≡ result Add w (wrapped (pos (word offset))) → HasCode (place_code alive (member_at l offset)) v
 member_fit alive l offset w v has is = from (nat_lt (capped (l.offset + offset)) 65536) refl
   where
-    small : nat_lt (capped (l.offset + offset)) 65536 ≡ true → (capped (l.offset + offset) ≡ l.offset + offset) × (l.offset < 65536)
+    small : nat_lt (capped (l.offset + offset)) 65536 ≡ true
+        → (capped (l.offset + offset) ≡ l.offset + offset) × (l.offset < 65536)
     small e = (one e, two e)
       where
         one : nat_lt (capped (l.offset + offset)) 65536 ≡ true → capped (l.offset + offset) ≡ l.offset + offset
@@ -117,7 +120,8 @@ member_fit alive l offset w v has is = from (nat_lt (capped (l.offset + offset))
         two : nat_lt (capped (l.offset + offset)) 65536 ≡ true → l.offset < 65536
         two e = grind (arith, nat_tests)
 
-    at_object : (x : Option ℕ) → l.offset < 65536 → capped (l.offset + offset) ≡ l.offset + offset → HasCode (pointer_code x l.offset) w
+    at_object : (x : Option ℕ) → l.offset < 65536 → capped (l.offset + offset) ≡ l.offset + offset
+        → HasCode (pointer_code x l.offset) w
         → HasCode (pointer_code x (capped (l.offset + offset))) v
     at_object None k j h = tt
     at_object (Some b) k j h = omega arith
@@ -134,7 +138,8 @@ member_fit alive l offset w v has is = from (nat_lt (capped (l.offset + offset))
 module _ (p : Setting) (lay : IsLaid p) where
   pub member_does : (d offset : ℕ) → DoesStep p 3 (step.Member d offset)
   member_does d offset f q first ts ls node r t e h =
-      begins p lay 3 _ (step.Member d offset) f q first node ts ls r t e h (λ all own segment sp ps rr m st y stage low stands code.
+      begins p lay 3 _ (step.Member d offset) f q first node ts ls r t e h
+      (λ all own segment sp ps rr m st y stage low stands code.
       place_follows p 3 _ ts _ r (λ l us is.
       depth_follows p 3 _ d us _ r (λ depth.
       let fn : IrFunction = function_of p f in
@@ -146,19 +151,23 @@ module _ (p : Setting) (lay : IsLaid p) where
       let src : Src = constant (pos (word offset)) in
       brings_top p lay Q r.state r.next all own segment sp ps rr m st x y f q first ls 2 (temporary.Place l) us d 12 end
       (Do (Two Add false (constant (pos (word offset))) (ToReg 12)) ∷ keep p.ir fn d 12)
-      (subst (λ (xs : List Temporary). Stage p r.state r.next (level f q first xs ∷ ls) all own segment sp sp ps rr m st) is stage)
-      refl depth (falls p lay (step.Member d offset) f q node (rr 0) tt stands code) (omega arith) (λ w pc st2 y2 has code2 stage2.
+      (subst (λ (xs : List Temporary). Stage p r.state r.next
+      (level f q first xs ∷ ls) all own segment sp sp ps rr m st) is stage)
+      refl depth (falls p lay (step.Member d offset) f q node (rr 0) tt stands code) (omega arith)
+      (λ w pc st2 y2 has code2 stage2.
       let r1 : ℕ → ℕ = set_reg (set_reg rr 0 pc) 12 w in
       let c = from_do p f pc (Two Add false (constant (pos (word offset))) (ToReg 12)) (keep p.ir fn d 12) end code2 in
-      operates_number p Q 1 r.state r.next (level f q first (temporary.Place l ∷ us) ∷ ls) all own segment sp sp ps r1 m st2 x y2 Add
+      operates_number p Q 1 r.state r.next (level f q first
+      (temporary.Place l ∷ us) ∷ ls) all own segment sp sp ps r1 m st2 x y2 Add
       (constant (pos (word offset))) (wrapped (pos (word offset))) Adds (number_is (pos (word offset))) stage2 c.0
       (λ r2 st3 y3 at_pc in_r12 stage3.
-      keeps_last p lay 0 f q (q + 1) first d 12 (r2 12) (temporary.Place (member_at l offset)) us ls r all own segment sp ps r2 m st3 y3
+      keeps_last p lay 0 f q (q + 1) first d 12 (r2 12) (temporary.Place
+      (member_at l offset)) us ls r all own segment sp ps r2 m st3 y3
       (without_top p r.state r.next all own segment sp sp ps f q q first (temporary.Place l) us ls r2 m st3 stage3) low
       (subst (λ (z : ℕ). From p f z (keep p.ir fn d 12) end) (sym at_pc) c.1) depth room refl
       (member_fit alive l offset w (r2 12) has in_r12))))))
 
--- ---- addresses
+  -- ---- addresses
 
   -- the code of a place at an offset of an object that is alive
   known_fit : (alive : List Placed) (n base offset v : ℕ) → address_of alive n ≡ Some base → v ≡ (base + offset) % 65536
@@ -184,13 +193,16 @@ module _ (p : Setting) (lay : IsLaid p) where
       let o : ℕ = local_at fn i offset in
       let there = local_found p lay r.state r.next all own segment sp f q first i ts ls (reverse r.state.calls) stage.made refl
       stage.stacked stands.named.0 in
-      let c0 = from_do p f (rr 0) (Two Mov false (Reg 1) (ToReg 12)) (Do (Two Add false (constant (pos o)) (ToReg 12)) ∷ keep p.ir fn d 12)
+      let c0 = from_do p f (rr 0) (Two Mov false (Reg 1) (ToReg 12)) (Do (Two Add false (constant (pos o))
+      (ToReg 12)) ∷ keep p.ir fn d 12)
       end (falls p lay (step.Address d (base.Local i) offset) f q node (rr 0) tt stands code) in
       let r1 : ℕ → ℕ = set_reg (set_reg rr 0 (rr 0 + 2)) 12 (rr 1) in
       let stack = stage.stack in
-      sets p.code p.low p.high segment sp ps stage.ground Q 2 all stage.shape rr m st x y Mov false (Reg 1) (ToReg 12) (InRegister 1)
+      sets p.code p.low p.high segment sp ps stage.ground Q 2 all stage.shape rr m st x y Mov false (Reg 1) (ToReg 12)
+      (InRegister 1)
       (InRegister 12) r1 stage.facts stage.words c0.0 in_register to_register refl tt tt refl stage.stack (λ st2 y2 facts wide.
-      let stage2 = with_regs p r.state r.next all own segment sp sp ps (level f q first ts ∷ ls) rr m r1 st st2 stage.stack wide facts stage in
+      let stage2 = with_regs p r.state r.next all own segment sp sp ps
+      (level f q first ts ∷ ls) rr m r1 st st2 stage.stack wide facts stage in
       let c = from_do p f (rr 0 + 2) (Two Add false (constant (pos o)) (ToReg 12)) (keep p.ir fn d 12) end c0.1 in
       operates_number p Q 1 r.state r.next (level f q first ts ∷ ls) all own segment sp sp ps r1 m st2 x y2 Add
       (constant (pos o)) (wrapped (pos o)) Adds (number_is (pos o)) stage2 c.0
@@ -217,7 +229,8 @@ module _ (p : Setting) (lay : IsLaid p) where
       let c = from_do p f (rr 0) (Two Mov false (constant (pos o)) (ToReg 12)) (keep p.ir fn d 12) end
       (falls p lay (step.Address d (base.Global i) offset) f q node (rr 0) tt stands code) in
       let pc : ℕ = rr 0 + size_of (Two Mov false (constant (pos o)) (ToReg 12)) in
-      brings_number p Q 2 r.state r.next (level f q first ts ∷ ls) all own segment sp sp ps rr m st x y (constant (pos o)) 12 (wrapped (pos o))
+      brings_number p Q 2 r.state r.next (level f q first ts ∷ ls) all own segment sp sp ps rr m st x y (constant (pos o)) 12
+      (wrapped (pos o))
       stage (number_is (pos o)) c.0 (omega arith) (λ st2 y2 stage2.
       let is : wrapped (pos o) ≡ (address_or (slice_get p.ir.globals i) + offset) % 65536 = omega arith in
       keeps_last p lay 1 f q (q + 1) first d 12 (wrapped (pos o)) (temporary.Place l) ts ls r all own segment sp ps
@@ -228,7 +241,7 @@ module _ (p : Setting) (lay : IsLaid p) where
   address_does d (base.Local i) offset = address_local d i offset
   address_does d (base.Global i) offset = address_global d i offset
 
--- ---- conversions
+  -- ---- conversions
 
   abbrev fine : Value → Result Value ℕ
   fine v = Ok v
@@ -249,11 +262,13 @@ module _ (p : Setting) (lay : IsLaid p) where
       differ : wrong 11 ≡ fine c → ⊥
       differ j = cc
 
-  convert_fit : (alive : List Placed) (t : IntType) (v c : Value) (w : ℕ) → IsWide t → converted t v ≡ Ok c → HasCode (value_code alive v) w
+  convert_fit : (alive : List Placed) (t : IntType) (v c : Value) (w : ℕ) → IsWide t → converted t v ≡ Ok c
+      → HasCode (value_code alive v) w
       → HasCode (value_code alive c) w
   unfolding converted
   convert_fit alive t (Int z) c w wide k has =
-      subst (λ (y : Value). HasCode (value_code alive y) w) (same_value (Int (as_type t z)) c k) (has ∙ sym (wrapped_type t z wide))
+      subst (λ (y : Value). HasCode (value_code alive y) w) (same_value (Int (as_type t z)) c k) (has
+      ∙ sym (wrapped_type t z wide))
   convert_fit alive t (Pointer n o) c w wide k has =
       subst (λ (y : Value). HasCode (value_code alive y) w) (same_value (Pointer n o) c k) has
   convert_fit alive t Null c w wide k has = subst (λ (y : Value). HasCode (value_code alive y) w) (same_value Null c k) has
@@ -264,24 +279,28 @@ module _ (p : Setting) (lay : IsLaid p) where
 
   pub convert_int_does : (d : ℕ) (x : Operand) → DoesStep p 2 (step.Convert d int.Int x)
   convert_int_does d x f q first ts ls node r t e h =
-      begins p lay 2 _ (step.Convert d int.Int x) f q first node ts ls r t e h (λ all own segment sp ps rr m st y stage low stands code.
+      begins p lay 2 _ (step.Convert d int.Int x) f q first node ts ls r t e h
+      (λ all own segment sp ps rr m st y stage low stands code.
       operand_follows p 2 _ node first x ts _ r (λ v us g.
       depth_follows p 2 _ d us _ r (λ depth.
       given_follows p 2 _ node (converted int.Int v) _ r (λ c ok.
       let fn : IrFunction = function_of p f in
       let room = room_of (temporaries_at fn) d (taken x) 1 fn.frame stands.room (omega arith) in
       passes p lay f q (q + 1) first ls r all own segment sp ps rr m st y x d ts v us (temporary.Value c) stage low
-      (falls p lay (step.Convert d int.Int x) f q node (rr 0) tt stands code) g (not_missing int.Int v c ok) depth stands.named room
+      (falls p lay (step.Convert d int.Int x) f q node (rr 0) tt stands code) g
+      (not_missing int.Int v c ok) depth stands.named room
       (λ w has. convert_fit (placed p.core (kept r.state)) int.Int v c w tt ok has)))))
 
   pub convert_unsigned_does : (d : ℕ) (x : Operand) → DoesStep p 2 (step.Convert d int.UInt x)
   convert_unsigned_does d x f q first ts ls node r t e h =
-      begins p lay 2 _ (step.Convert d int.UInt x) f q first node ts ls r t e h (λ all own segment sp ps rr m st y stage low stands code.
+      begins p lay 2 _ (step.Convert d int.UInt x) f q first node ts ls r t e h
+      (λ all own segment sp ps rr m st y stage low stands code.
       operand_follows p 2 _ node first x ts _ r (λ v us g.
       depth_follows p 2 _ d us _ r (λ depth.
       given_follows p 2 _ node (converted int.UInt v) _ r (λ c ok.
       let fn : IrFunction = function_of p f in
       let room = room_of (temporaries_at fn) d (taken x) 1 fn.frame stands.room (omega arith) in
       passes p lay f q (q + 1) first ls r all own segment sp ps rr m st y x d ts v us (temporary.Value c) stage low
-      (falls p lay (step.Convert d int.UInt x) f q node (rr 0) tt stands code) g (not_missing int.UInt v c ok) depth stands.named room
+      (falls p lay (step.Convert d int.UInt x) f q node (rr 0) tt stands code) g
+      (not_missing int.UInt v c ok) depth stands.named room
       (λ w has. convert_fit (placed p.core (kept r.state)) int.UInt v c w tt ok has)))))

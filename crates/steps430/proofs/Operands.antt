@@ -55,7 +55,8 @@ even_cell : (segment sp : ℕ) (ps : ℕ → ℕ) (all : Cells) (a w : ℕ) → 
     → a % 2 ≡ 0
 even_cell segment sp ps all a w h cell = (h.fits a (Word (Some w)) cell).0
 
-source_at : (byte : Bool) (segment sp : ℕ) (ps r : ℕ → ℕ) (all : Cells) (o a w k : ℕ) → Shape segment sp ps all → r 1 ≡ sp → sp + o ≡ a
+source_at : (byte : Bool) (segment sp : ℕ) (ps r : ℕ → ℕ) (all : Cells) (o a w k : ℕ) → Shape segment sp ps all → r 1 ≡ sp
+    → sp + o ≡ a
     → a < 65536 → all a ≡ Some (cell_by (not byte) (Some w))
     → Source byte (next_regs (Two Mov byte (Indexed 1 o) (ToReg k)) r) (Indexed 1 o) (InMemory a)
 source_at false segment sp ps r all o a w k h stack is low cell =
@@ -80,7 +81,8 @@ source_of false segment sp ps r all g a w k h is cell =
     subst (λ (b : ℕ). Source false (next_regs (Two Mov false (Absolute g) (ToReg k)) r) (Absolute g) (InMemory b)) is
     (from_address (omega arith))
 source_of true segment sp ps r all g a w k h is cell =
-    subst (λ (b : ℕ). Source true (next_regs (Two Mov true (Absolute g) (ToReg k)) r) (Absolute g) (InMemory b)) is byte_from_address
+    subst (λ (b : ℕ). Source true (next_regs (Two Mov true (Absolute g) (ToReg k)) r) (Absolute g)
+    (InMemory b)) is byte_from_address
 
 effect_of : (byte : Bool) (r m : ℕ → ℕ) (g w k : ℕ) → k ≢ 2 → k ≢ 3
     → two_given Mov byte (Absolute g) (ToReg k) r m (InRegister k) w
@@ -113,15 +115,18 @@ module _ (p : Setting) (lay : IsLaid p) (Q : Ideal → Type 0) (s : State) (next
       let one = rd.3 in
       let same : al.address ≡ rd.2 = same_address al.address rd.2
       (sym al.is ∙ ap (λ (j : ℕ). address_of (placed p.core (kept s)) j) number ∙ one.address) in
-      let base = local_stands p lay s all own segment sp f q first i ts ls al.address offset kd (reverse s.calls) refl h.stacked few al.apart in
+      let base = local_stands p lay s all own segment sp f q first i ts ls al.address offset kd
+      (reverse s.calls) refl h.stacked few al.apart in
       let cell : all (rd.2 + offset) ≡ Some (cell_by (not (is_char kd)) (Some one.word)) =
       h.part (rd.2 + offset) (cell_of kd (Some one.word)) one.cell ∙ ap (λ (z : Cell). Some z) (narrow_kind kd (Some one.word)) in
-      let low = live_below segment sp ps (rd.2 + offset) (h.shape.live (rd.2 + offset) (cell_by (not (is_char kd)) (Some one.word)) cell) in
+      let low = live_below segment sp ps (rd.2 + offset) (h.shape.live (rd.2 + offset) (cell_by (not (is_char kd))
+      (Some one.word)) cell) in
       let is : sp + o ≡ rd.2 + offset = omega arith in
       let d = from_do p f (r 0) (Two Mov (is_char kd) (Indexed 1 o) (ToReg k)) more end code in
       let n2 : k ≢ 2 = omega arith in
       let n3 : k ≢ 3 = omega arith in
-      brings_cell p Q n s next (level f q first ts ∷ ls) all own segment sp sp ps r m st x y (is_char kd) (Indexed 1 o) (rd.2 + offset) k
+      brings_cell p Q n s next (level f q first ts ∷ ls) all own segment sp sp ps r m st x y (is_char kd) (Indexed 1 o)
+      (rd.2 + offset) k
       one.word h d.0 four
       (source_at (is_char kd) segment sp ps r all o (rd.2 + offset) one.word k h.shape h.stack is (omega arith) cell)
       (effect_at (is_char kd) r m o one.word k n2 n3) cell
@@ -137,12 +142,14 @@ module _ (p : Setting) (lay : IsLaid p) (Q : Ideal → Type 0) (s : State) (next
       let base = global_stands p lay s next i al.address offset kd h.made few al.apart in
       let cell : all (rd.2 + offset) ≡ Some (cell_by (not (is_char kd)) (Some one.word)) =
       h.part (rd.2 + offset) (cell_of kd (Some one.word)) one.cell ∙ ap (λ (z : Cell). Some z) (narrow_kind kd (Some one.word)) in
-      let low = live_below segment sp ps (rd.2 + offset) (h.shape.live (rd.2 + offset) (cell_by (not (is_char kd)) (Some one.word)) cell) in
+      let low = live_below segment sp ps (rd.2 + offset) (h.shape.live (rd.2 + offset) (cell_by (not (is_char kd))
+      (Some one.word)) cell) in
       let is : g ≡ rd.2 + offset = omega arith in
       let d = from_do p f (r 0) (Two Mov (is_char kd) (Absolute g) (ToReg k)) more end code in
       let n2 : k ≢ 2 = omega arith in
       let n3 : k ≢ 3 = omega arith in
-      brings_cell p Q n s next (level f q first ts ∷ ls) all own segment sp sp ps r m st x y (is_char kd) (Absolute g) (rd.2 + offset) k
+      brings_cell p Q n s next (level f q first ts ∷ ls) all own segment sp sp ps r m st x y (is_char kd) (Absolute g)
+      (rd.2 + offset) k
       one.word h d.0 four
       (source_of (is_char kd) segment sp ps r all g (rd.2 + offset) one.word k h.shape is cell)
       (effect_of (is_char kd) r m g one.word k n2 n3) cell
@@ -169,11 +176,13 @@ module _ (p : Setting) (lay : IsLaid p) (Q : Ideal → Type 0) (s : State) (next
       let room = top.holds.room in
       let is : sp + o ≡ a = omega arith in
       let c = from_do p f (r 0) (Two Mov false (Indexed 1 o) (ToReg k)) more end code in
-      brings_word p Q n s next (level f q first (t ∷ us) ∷ ls) all own segment sp sp ps r m st x y o a k held.0 h c.0 is (omega arith) four
+      brings_word p Q n s next (level f q first (t ∷ us) ∷ ls) all own segment sp sp ps r m st x y o a k held.0 h c.0 is
+      (omega arith) four
       held.1 (λ st2 y2 u. go held.0 (r 0 + 4) st2 y2 held.2 c.1 u)
 
   -- an operand that is there
-  pub brings_value : (n : ℕ) (X : Operand) (ts : List Temporary) (v : Value) (us : List Temporary) (d k end : ℕ) (more : List Part)
+  pub brings_value : (n : ℕ) (X : Operand) (ts : List Temporary) (v : Value) (us : List Temporary) (d k end : ℕ)
+      (more : List Part)
       → Stage p s next (level f q first ts ∷ ls) all own segment sp sp ps r m st
       → Gives s first X ts v us → is_missing v ≡ false → length us ≡ d
       → Every (IsNamed p.core (function_of p f)) (operand_bases X)
@@ -183,11 +192,13 @@ module _ (p : Setting) (lay : IsLaid p) (Q : Ideal → Type 0) (s : State) (next
       brings_top n (temporary.Value v) us d k end more h (ap not defined) depth code four go
   brings_value n X ts v us d k end more h (OfConstant z) defined depth named code four go =
       let c = from_do p f (r 0) (Two Mov false (constant z) (ToReg k)) more end code in
-      brings_number p Q n s next (level f q first ts ∷ ls) all own segment sp sp ps r m st x y (constant z) k (wrapped z) h (number_is z) c.0
+      brings_number p Q n s next (level f q first ts ∷ ls) all own segment sp sp ps r m st x y (constant z) k (wrapped z) h
+      (number_is z) c.0
       four (λ st2 y2 u. go (wrapped z) (r 0 + size_of (Two Mov false (constant z) (ToReg k))) st2 y2 refl c.1 u)
   brings_value n X ts v us d k end more h OfNull defined depth named code four go =
       let c = from_do p f (r 0) (Two Mov false (constant (pos 0)) (ToReg k)) more end code in
-      brings_number p Q n s next (level f q first ts ∷ ls) all own segment sp sp ps r m st x y (constant (pos 0)) k (wrapped (pos 0)) h
+      brings_number p Q n s next (level f q first ts ∷ ls) all own segment sp sp ps r m st x y (constant (pos 0)) k (wrapped
+      (pos 0)) h
       (number_is (pos 0)) c.0
       four (λ st2 y2 u. go (wrapped (pos 0)) (r 0 + size_of (Two Mov false (constant (pos 0)) (ToReg k))) st2 y2 refl c.1 u)
   brings_value n X ts v us d k end more h (OfScalar of offset kd e there) defined depth named code four go =

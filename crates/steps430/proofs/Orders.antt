@@ -78,7 +78,8 @@ same_from a b false false small_a small_b e f = grind (arith, nat_tests, ints)
 pub same_numbers : (t : IntType) (i j : ℤ) → int_eq (number t i) (number t j) ≡ nat_eq (wrapped i) (wrapped j)
 unfolding number
 same_numbers int.Int i j =
-    same_from (wrapped i) (wrapped j) (nat_lt (wrapped i) 32768) (nat_lt (wrapped j) 32768) (wrapped_small i) (wrapped_small j) refl refl
+    same_from (wrapped i) (wrapped j) (nat_lt (wrapped i) 32768) (nat_lt (wrapped j) 32768) (wrapped_small i)
+    (wrapped_small j) refl refl
 same_numbers int.UInt i j = unsigned_same (wrapped i) (wrapped j)
   where
     unsigned_same : (a b : ℕ) → int_eq (pos a) (pos b) ≡ nat_eq a b
@@ -117,12 +118,14 @@ reach_taken int.Int i j status =
     compare_greater_or_equal false status (wrapped i) (wrapped j) (wrapped_small i) (wrapped_small j)
     ∙ ap not (sym (signed_order (wrapped i) (wrapped j) (wrapped_small i) (wrapped_small j)))
 reach_taken int.UInt i j status =
-    compare_carry false status (wrapped i) (wrapped j) ∙ turn (wrapped i) (wrapped j) ∙ ap not (sym (unsigned_order (wrapped i) (wrapped j)))
+    compare_carry false status (wrapped i) (wrapped j) ∙ turn (wrapped i) (wrapped j)
+    ∙ ap not (sym (unsigned_order (wrapped i) (wrapped j)))
   where
     turn : (a b : ℕ) → nat_le b a ≡ not (nat_lt a b)
     turn a b = grind (arith, nat_tests)
 reach_taken int.Char i j status =
-    compare_carry false status (wrapped i) (wrapped j) ∙ turn (wrapped i) (wrapped j) ∙ ap not (sym (unsigned_order (wrapped i) (wrapped j)))
+    compare_carry false status (wrapped i) (wrapped j) ∙ turn (wrapped i) (wrapped j)
+    ∙ ap not (sym (unsigned_order (wrapped i) (wrapped j)))
   where
     turn : (a b : ℕ) → nat_le b a ≡ not (nat_lt a b)
     turn a b = grind (arith, nat_tests)
@@ -162,17 +165,21 @@ module _ (p : Setting) (lay : IsLaid p) where
       let there_a : is_missing a ≡ false = ap is_missing num.is_left in
       let there_b : is_missing b ≡ false = ap is_missing num.is_right in
       let whole = falls p lay (step.Binary d (operation.Integers o t kind) left right) f q node (rr 0) tt stands code in
-      let split : From p f (rr 0) (bring p.ir fn left d 12 ++ (bring p.ir fn right (d + taken left) 13 ++ (operate o t ++ keep p.ir fn d 12))) end =
+      let split : From p f (rr 0) (bring p.ir fn left d 12 ++ (bring p.ir fn right (d + taken left) 13 ++
+      (operate o t ++ keep p.ir fn d 12))) end =
       subst (λ (parts : List Part). From p f (rr 0) parts end)
-      (append_assoc (bring p.ir fn left d 12) (bring p.ir fn right (d + taken left) 13) (operate o t ++ keep p.ir fn d 12)) whole in
+      (append_assoc (bring p.ir fn left d 12) (bring p.ir fn right (d + taken left) 13)
+      (operate o t ++ keep p.ir fn d 12)) whole in
       let parts : From p f (rr 0) (bring p.ir fn left d 12 ++ (bring p.ir fn right (d + taken left) 13
       ++ (Do (Two Cmp false (Reg 13) (ToReg 12)) ∷ (truth_where cond ++ keep p.ir fn d 12)))) end =
-      subst (λ (xs : List Part). From p f (rr 0) (bring p.ir fn left d 12 ++ (bring p.ir fn right (d + taken left) 13 ++ (xs ++ keep p.ir fn d 12))) end)
+      subst (λ (xs : List Part). From p f (rr 0) (bring p.ir fn left d 12 ++ (bring p.ir fn right (d + taken left) 13 ++
+      (xs ++ keep p.ir fn d 12))) end)
       same split in
       let Q = StandsAt p (At f (q + 1) first (temporary.Value c ∷ ws) ls) r in
       let x : Course = outside r.state.marks (drop r.used p.readings) in
       brings_two p lay Q r.state r.next all own segment sp ps rr m st x y f q first ls 5 left right ts us ws a b d 12 13 end
-      (Do (Two Cmp false (Reg 13) (ToReg 12)) ∷ (truth_where cond ++ keep p.ir fn d 12)) stage g k there_a there_b depth stands.named parts
+      (Do (Two Cmp false (Reg 13) (ToReg 12)) ∷
+      (truth_where cond ++ keep p.ir fn d 12)) stage g k there_a there_b depth stands.named parts
       (omega arith) (omega arith)
       (λ v w pc pc2 st2 y2 has_a has_b code2 stage2.
       let r1 : ℕ → ℕ = set_reg (set_reg (set_reg (set_reg rr 0 pc) 12 v) 0 pc2) 13 w in
@@ -184,7 +191,8 @@ module _ (p : Setting) (lay : IsLaid p) where
       let status : r2 2 ≡ difference_status false (r1 2) false (wrapped num.left) (wrapped num.right) =
       in_flags ∙ ap (λ (z : ℕ). difference_status false (r1 2) false z w) is_a
       ∙ ap (λ (z : ℕ). difference_status false (r1 2) false (wrapped num.left) z) is_b in
-      truth_sets p Q 1 r.state r.next (level f q first ws ∷ ls) all own segment sp sp ps r2 m st3 x y3 f cond (is_taken cond (r2 2))
+      truth_sets p Q 1 r.state r.next (level f q first ws ∷ ls) all own segment sp sp ps r2 m st3 x y3 f cond (is_taken cond
+      (r2 2))
       (keep p.ir fn d 12) end stage3 refl
       (subst (λ (z : ℕ). From p f z (truth_where cond ++ keep p.ir fn d 12) end) (sym at_pc) here.1)
       (λ r3 st4 y4 in_r12 code4 stage4.
@@ -215,17 +223,21 @@ module _ (p : Setting) (lay : IsLaid p) where
       let there_a : is_missing a ≡ false = ap is_missing num.is_left in
       let there_b : is_missing b ≡ false = ap is_missing num.is_right in
       let whole = falls p lay (step.Binary d (operation.Integers o t kind) left right) f q node (rr 0) tt stands code in
-      let split : From p f (rr 0) (bring p.ir fn left d 12 ++ (bring p.ir fn right (d + taken left) 13 ++ (operate o t ++ keep p.ir fn d 12))) end =
+      let split : From p f (rr 0) (bring p.ir fn left d 12 ++ (bring p.ir fn right (d + taken left) 13 ++
+      (operate o t ++ keep p.ir fn d 12))) end =
       subst (λ (parts : List Part). From p f (rr 0) parts end)
-      (append_assoc (bring p.ir fn left d 12) (bring p.ir fn right (d + taken left) 13) (operate o t ++ keep p.ir fn d 12)) whole in
+      (append_assoc (bring p.ir fn left d 12) (bring p.ir fn right (d + taken left) 13)
+      (operate o t ++ keep p.ir fn d 12)) whole in
       let parts : From p f (rr 0) (bring p.ir fn left d 12 ++ (bring p.ir fn right (d + taken left) 13
       ++ (Do (Two Cmp false (Reg 12) (ToReg 13)) ∷ (truth_where cond ++ keep p.ir fn d 12)))) end =
-      subst (λ (xs : List Part). From p f (rr 0) (bring p.ir fn left d 12 ++ (bring p.ir fn right (d + taken left) 13 ++ (xs ++ keep p.ir fn d 12))) end)
+      subst (λ (xs : List Part). From p f (rr 0) (bring p.ir fn left d 12 ++ (bring p.ir fn right (d + taken left) 13 ++
+      (xs ++ keep p.ir fn d 12))) end)
       same split in
       let Q = StandsAt p (At f (q + 1) first (temporary.Value c ∷ ws) ls) r in
       let x : Course = outside r.state.marks (drop r.used p.readings) in
       brings_two p lay Q r.state r.next all own segment sp ps rr m st x y f q first ls 5 left right ts us ws a b d 12 13 end
-      (Do (Two Cmp false (Reg 12) (ToReg 13)) ∷ (truth_where cond ++ keep p.ir fn d 12)) stage g k there_a there_b depth stands.named parts
+      (Do (Two Cmp false (Reg 12) (ToReg 13)) ∷
+      (truth_where cond ++ keep p.ir fn d 12)) stage g k there_a there_b depth stands.named parts
       (omega arith) (omega arith)
       (λ v w pc pc2 st2 y2 has_a has_b code2 stage2.
       let r1 : ℕ → ℕ = set_reg (set_reg (set_reg (set_reg rr 0 pc) 12 v) 0 pc2) 13 w in
@@ -237,7 +249,8 @@ module _ (p : Setting) (lay : IsLaid p) where
       let status : r2 2 ≡ difference_status false (r1 2) false (wrapped num.right) (wrapped num.left) =
       in_flags ∙ ap (λ (z : ℕ). difference_status false (r1 2) false w z) is_a
       ∙ ap (λ (z : ℕ). difference_status false (r1 2) false z (wrapped num.left)) is_b in
-      truth_sets p Q 1 r.state r.next (level f q first ws ∷ ls) all own segment sp sp ps r2 m st3 x y3 f cond (is_taken cond (r2 2))
+      truth_sets p Q 1 r.state r.next (level f q first ws ∷ ls) all own segment sp sp ps r2 m st3 x y3 f cond (is_taken cond
+      (r2 2))
       (keep p.ir fn d 12) end stage3 refl
       (subst (λ (z : ℕ). From p f z (truth_where cond ++ keep p.ir fn d 12) end) (sym at_pc) here.1)
       (λ r3 st4 y4 in_r12 code4 stage4.
@@ -248,7 +261,8 @@ module _ (p : Setting) (lay : IsLaid p) where
       keeps_last p lay 0 f q (q + 1) first d 12 (r3 12) (temporary.Value c) ws ls r all own segment sp ps r3 m st4 y4 stage4 low
       code4 depth room refl has)))))))
 
-  pub less_does : (d : ℕ) (t own : IntType) (left right : Operand) → DoesStep p 7 (step.Binary d (operation.Integers op.Less t own) left right)
+  pub less_does : (d : ℕ) (t own : IntType) (left right : Operand)
+      → DoesStep p 7 (step.Binary d (operation.Integers op.Less t own) left right)
   unfolding binary
   less_does d t own left right =
       compare_front d op.Less t own left right (if is_signed t then Less else Nc) refl

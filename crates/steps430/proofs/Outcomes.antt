@@ -104,12 +104,14 @@ module _ (p : Setting) (limit : ℕ) (t : Ideal) where
       asked_follows node (λ s. defined (accessed s l k)) go r
       (λ v e. let d = defined_ok (accessed r.state l k) v e in more v d.0 d.1)
 
-  pub operand_follows : (node first : ℕ) (x : Operand) (ts : List Temporary) (go : Value → List Temporary → Action Control) (r : Run)
+  pub operand_follows : (node first : ℕ) (x : Operand) (ts : List Temporary) (go : Value → List Temporary
+      → Action Control) (r : Run)
       → ((v : Value) (us : List Temporary) → Gives r.state first x ts v us → Follows p limit (go v us r) t)
       → Follows p limit (on_operand node first x ts go r) t
   unfolding on_operand
   operand_follows node first operand.Temporary ts go r more =
-      value_follows ts go r (λ v us e. more v us (subst (λ (xs : List Temporary). Gives r.state first operand.Temporary xs v us) (sym e) OfTop))
+      value_follows ts go r (λ v us e. more v us (subst
+      (λ (xs : List Temporary). Gives r.state first operand.Temporary xs v us) (sym e) OfTop))
   operand_follows node first (operand.Constant z) ts go r more = more (Int z) ts (OfConstant z)
   operand_follows node first operand.Null ts go r more = more Null ts OfNull
   operand_follows node first (operand.Scalar of offset k) ts go r more =

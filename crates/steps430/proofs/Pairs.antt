@@ -66,7 +66,8 @@ module _ (p : Setting) (lay : IsLaid p) (Q : Ideal → Type 0) (s : State) (next
       → Stage p s next (level f q first ts ∷ ls) all own segment sp sp ps r m st
       → Gives s first right ts b us → Gives s first left us a ws → is_missing a ≡ false → is_missing b ≡ false → length ws ≡ d
       → Every (IsNamed p.core (function_of p f)) (operand_bases left ++ operand_bases right)
-      → From p f (r 0) (bring p.ir (function_of p f) left d i ++ (bring p.ir (function_of p f) right (d + taken left) j ++ more)) end
+      → From p f (r 0) (bring p.ir (function_of p f) left d i ++ (bring p.ir (function_of p f) right
+      (d + taken left) j ++ more)) end
       → 4 ≤ i → 4 ≤ j
       → ((v w pc pc2 : ℕ) (st2 : Bytes) (y2 : Meter) → HasCode (value_code (placed p.core (kept s)) a) v
       → HasCode (value_code (placed p.core (kept s)) b) w → From p f pc2 more end
@@ -87,7 +88,8 @@ module _ (p : Setting) (lay : IsLaid p) (Q : Ideal → Type 0) (s : State) (next
       let n0 : 0 ≢ i = omega arith in
       let at_pc : r1 0 ≡ pc = simp (ne_eqb 0 i n0) in
       brings_value p lay Q s next all own segment sp ps r1 m st2 x y2 f q first ls n right ts b us (d + taken left) j end more
-      (with_regs p s next all own segment sp sp ps (level f q first ts ∷ ls) r m r1 st st2 stage2.stack stage2.words stage2.facts h)
+      (with_regs p s next all own segment sp sp ps
+      (level f q first ts ∷ ls) r m r1 st st2 stage2.stack stage2.words stage2.facts h)
       g there_b (omega arith) named_right
       (subst (λ (c : ℕ). From p f c (bring p.ir fn right (d + taken left) j ++ more) end) (sym at_pc) code2) four_j
       (λ w pc2 st3 y3 has2 code3 stage3.

@@ -68,10 +68,13 @@ module _ (p : Setting) (lay : IsLaid p) (f q q2 first : ℕ) (ls : List Frame) (
       → From p f (rr 0) (put p.ir (function_of p f) x d) (step_at p f q2) → Gives r.state first x ts v us → is_missing v ≡ false
       → length us ≡ d → Every (IsNamed p.core (function_of p f)) (operand_bases x)
       → temporaries_at (function_of p f) + 2 * d + 2 ≤ (function_of p f).frame
-      → ((w : ℕ) → HasCode (value_code (placed p.core (kept r.state)) v) w → HasCode (temporary_code (placed p.core (kept r.state)) t2) w)
-      → Leads 2 (at segment ps rr m st (outside r.state.marks (drop r.used p.readings)) y) (StandsAt p (At f q2 first (t2 ∷ us) ls) r)
+      → ((w : ℕ) → HasCode (value_code (placed p.core (kept r.state)) v) w
+      → HasCode (temporary_code (placed p.core (kept r.state)) t2) w)
+      → Leads 2 (at segment ps rr m st (outside r.state.marks (drop r.used p.readings)) y) (StandsAt p (At f q2 first
+      (t2 ∷ us) ls) r)
 
-  passes_on : (x : Operand) (d : ℕ) → put p.ir (function_of p f) x d ≡ bring p.ir (function_of p f) x d 12 ++ keep p.ir (function_of p f) d 12
+  passes_on : (x : Operand) (d : ℕ)
+      → put p.ir (function_of p f) x d ≡ bring p.ir (function_of p f) x d 12 ++ keep p.ir (function_of p f) d 12
       → Passes x d
   passes_on x d same ts v us t2 stage low code g there depth named room fit =
       let fn : IrFunction = function_of p f in
@@ -90,7 +93,8 @@ module _ (p : Setting) (lay : IsLaid p) (f q q2 first : ℕ) (ls : List Frame) (
   passes_top d ts v us t2 stage low code OfTop there depth named room fit =
       stands_now p lay 2 f q q2 first ts (t2 ∷ us) ls r all own segment sp ps rr m st y
       (with_level p r.state r.next all own segment sp sp ps f q q2 first (temporary.Value v ∷ us) (t2 ∷ us) ls rr m st
-      (λ a k. turned all (placed p.core (kept r.state)) (function_of p f) a (temporary.Value v) t2 us (ap not there) fit k) stage) low code
+      (λ a k. turned all (placed p.core (kept r.state)) (function_of p f) a (temporary.Value v) t2 us
+      (ap not there) fit k) stage) low code
 
   pub passes : (x : Operand) (d : ℕ) → Passes x d
   passes operand.Temporary d = passes_top d

@@ -83,7 +83,8 @@ within_fit alive n offset end w v most e has = from (nat_le offset end) refl e
     small : nat_le offset end ≡ true → nat_lt offset 65536 ≡ true
     small k = grind (arith, nat_tests)
 
-    from : (b : Bool) → nat_le offset end ≡ b → (if b then fine (Pointer n offset) else wrong 4) ≡ fine v → HasCode (value_code alive v) w
+    from : (b : Bool) → nat_le offset end ≡ b → (if b then fine (Pointer n offset) else wrong 4) ≡ fine v
+        → HasCode (value_code alive v) w
     from true k j =
         subst (λ (x : Value). HasCode (value_code alive x) w) (same_value (Pointer n offset) v j)
         (subst (λ (b : Bool). HasCode (if b then pointer_code (address_of alive n) offset else None) w) (small k) has)
@@ -104,7 +105,8 @@ point_fit alive s (Some n) offset w v e has = from (object_of s n) e
     from None j = within_fit alive n offset 65535 w v (omega arith) j has
     from (Some o) j = within_fit alive n offset (end_of o) w v (omega arith) j has
 
-pointed_at : (alive : List Placed) (s : State) (l : Location) (w : ℕ) (v : Value) → address s l ≡ Ok v → HasCode (place_code alive l) w
+pointed_at : (alive : List Placed) (s : State) (l : Location) (w : ℕ) (v : Value) → address s l ≡ Ok v
+    → HasCode (place_code alive l) w
     → HasCode (value_code alive v) w
 unfolding address
 pointed_at alive s l w v e has = point_fit alive s l.object l.offset w v e has
@@ -179,9 +181,11 @@ module _ (p : Setting) (lay : IsLaid p) (Q : Ideal → Type 0) where
       let c = from_do p f pc (Two Mov (is_char kd) (Indirect 12) (ToReg 12)) more end code2 in
       brings_cell p Q n s next (level f q first (temporary.Place l ∷ us) ∷ ls) all own segment sp sp ps r1 m st2 x y2 (is_char kd)
       (Indirect 12) a 12 one.word stage2 c.0 (omega arith)
-      (source_through (is_char kd) segment sp ps r1 all a one.word h.shape is cell) (effect_through (is_char kd) r1 m one.word) cell
+      (source_through (is_char kd) segment sp ps r1 all a one.word h.shape is cell) (effect_through
+      (is_char kd) r1 m one.word) cell
       (λ st3 y3 stage3.
-      go (set_reg (set_reg r1 0 (pc + size_of (Two Mov (is_char kd) (Indirect 12) (ToReg 12)))) 12 one.word) one.word st3 y3 refl one.code
+      go (set_reg (set_reg r1 0 (pc + size_of (Two Mov (is_char kd) (Indirect 12)
+      (ToReg 12)))) 12 one.word) one.word st3 y3 refl one.code
       c.1 stage3))
 
 module _ (p : Setting) (lay : IsLaid p) where
@@ -193,9 +197,11 @@ module _ (p : Setting) (lay : IsLaid p) where
       load_follows p 3 _ node l k _ r (λ v ok there.
       let fn : IrFunction = function_of p f in
       let room = room_of (temporaries_at fn) d 1 1 fn.frame stands.room (omega arith) in
-      reads_place p lay (StandsAt p (At f (q + 1) first (temporary.Value v ∷ us) ls) r) 1 r.state r.next all own segment sp ps rr m st
+      reads_place p lay (StandsAt p (At f (q + 1) first
+      (temporary.Value v ∷ us) ls) r) 1 r.state r.next all own segment sp ps rr m st
       (outside r.state.marks (drop r.used p.readings)) y f q first ls l us k v d (step_at p f (q + 1)) (keep p.ir fn d 12)
-      (subst (λ (xs : List Temporary). Stage p r.state r.next (level f q first xs ∷ ls) all own segment sp sp ps rr m st) is stage)
+      (subst (λ (xs : List Temporary). Stage p r.state r.next
+      (level f q first xs ∷ ls) all own segment sp sp ps rr m st) is stage)
       ok there depth (falls p lay (step.Load d k) f q node (rr 0) tt stands code) (λ r2 w st2 y2 in_r12 has code2 stage2.
       keeps_last p lay 0 f q (q + 1) first d 12 w (temporary.Value v) us ls r all own segment sp ps r2 m st2 y2
       (without_top p r.state r.next all own segment sp sp ps f q q first (temporary.Place l) us ls r2 m st2 stage2)
@@ -209,10 +215,13 @@ module _ (p : Setting) (lay : IsLaid p) where
       load_follows p 3 _ node l k _ r (λ v ok there.
       let fn : IrFunction = function_of p f in
       let room : temporaries_at fn + 2 * suc d + 2 ≤ fn.frame = let h2 = stands.room in omega arith in
-      reads_place p lay (StandsAt p (At f (q + 1) first (temporary.Value v ∷ temporary.Place l ∷ us) ls) r) 1 r.state r.next all own segment
+      reads_place p lay (StandsAt p (At f (q + 1) first
+      (temporary.Value v ∷ temporary.Place l ∷ us) ls) r) 1 r.state r.next all own segment
       sp ps rr m st
       (outside r.state.marks (drop r.used p.readings)) y f q first ls l us k v d (step_at p f (q + 1)) (keep p.ir fn (suc d) 12)
-      (subst (λ (xs : List Temporary). Stage p r.state r.next (level f q first xs ∷ ls) all own segment sp sp ps rr m st) is stage)
+      (subst (λ (xs : List Temporary). Stage p r.state r.next
+      (level f q first xs ∷ ls) all own segment sp sp ps rr m st) is stage)
       ok there depth (falls p lay (step.Peek d k) f q node (rr 0) tt stands code) (λ r2 w st2 y2 in_r12 has code2 stage2.
-      keeps_last p lay 0 f q (q + 1) first (suc d) 12 w (temporary.Value v) (temporary.Place l ∷ us) ls r all own segment sp ps r2 m st2 y2
+      keeps_last p lay 0 f q (q + 1) first (suc d) 12 w (temporary.Value v)
+      (temporary.Place l ∷ us) ls r all own segment sp ps r2 m st2 y2
       stage2 low code2 (ap suc depth) room in_r12 has)))))

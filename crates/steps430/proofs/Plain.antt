@@ -51,7 +51,8 @@ module _ (p : Setting) (lay : IsLaid p) where
   -- a value that is not on the stack yet
   put_value : (d : ℕ) (x : Operand)
       → ((fn : IrFunction) → put p.ir fn x d ≡ bring p.ir fn x d 12 ++ keep p.ir fn d 12)
-      → ((s : State) (first : ℕ) (ts : List Temporary) (v : Value) (us : List Temporary) → Gives s first x ts v us → is_missing v ≡ false)
+      → ((s : State) (first : ℕ) (ts : List Temporary) (v : Value) (us : List Temporary) → Gives s first x ts v us
+      → is_missing v ≡ false)
       → DoesStep p 2 (step.Put d x)
   put_value d x same there f q first ts ls node r t e h =
       begins p lay 2 _ (step.Put d x) f q first node ts ls r t e h (λ all own segment sp ps rr m st y stage low stands code.
@@ -61,8 +62,10 @@ module _ (p : Setting) (lay : IsLaid p) where
       let end : ℕ = step_at p f (q + 1) in
       let room = room_of (temporaries_at fn) d (taken x) 1 fn.frame stands.room (omega arith) in
       let c : From p f (rr 0) (bring p.ir fn x d 12 ++ keep p.ir fn d 12) end =
-      subst (λ (parts : List Part). From p f (rr 0) parts end) (same fn) (falls p lay (step.Put d x) f q node (rr 0) tt stands code) in
-      brings_value p lay (StandsAt p (At f (q + 1) first (temporary.Value v ∷ us) ls) r) r.state r.next all own segment sp ps rr m st
+      subst (λ (parts : List Part). From p f (rr 0) parts end) (same fn) (falls p lay (step.Put d x) f q node
+      (rr 0) tt stands code) in
+      brings_value p lay (StandsAt p (At f (q + 1) first
+      (temporary.Value v ∷ us) ls) r) r.state r.next all own segment sp ps rr m st
       (outside r.state.marks (drop r.used p.readings)) y f q first ls 1 x ts v us d 12 end (keep p.ir fn d 12) stage g
       (there r.state first ts v us g) depth stands.named c (omega arith) (λ w pc st2 y2 has code2 stage2.
       keeps_last p lay 0 f q (q + 1) first d 12 w (temporary.Value v) us ls r all own segment sp ps
@@ -73,7 +76,8 @@ module _ (p : Setting) (lay : IsLaid p) where
   -- the topmost temporary is there already
   put_top : (d : ℕ) → DoesStep p 2 (step.Put d operand.Temporary)
   put_top d f q first ts ls node r t e h =
-      begins p lay 2 _ (step.Put d operand.Temporary) f q first node ts ls r t e h (λ all own segment sp ps rr m st y stage low stands code.
+      begins p lay 2 _ (step.Put d operand.Temporary) f q first node ts ls r t e h
+      (λ all own segment sp ps rr m st y stage low stands code.
       operand_follows p 2 _ node first operand.Temporary ts _ r (λ v us g.
       depth_follows p 2 _ d us _ r (λ depth.
       stands_now p lay 2 f q (q + 1) first ts (temporary.Value v ∷ us) ls r all own segment sp ps rr m st y
@@ -123,12 +127,14 @@ module _ (p : Setting) (lay : IsLaid p) where
       depth_follows p 0 _ d us _ r (λ depth.
       stands_now p lay 0 f q (q + 1) first ts us ls r all own segment sp ps rr m st y
       (without_top p r.state r.next all own segment sp sp ps f q (q + 1) first u us ls rr m st
-      (subst (λ (xs : List Temporary). Stage p r.state r.next (level f q first xs ∷ ls) all own segment sp sp ps rr m st) is stage))
+      (subst (λ (xs : List Temporary). Stage p r.state r.next
+      (level f q first xs ∷ ls) all own segment sp sp ps rr m st) is stage))
       low (falls p lay (step.Drop d) f q node (rr 0) tt stands code))))
 
   pub jump_does : (to : ℕ) → DoesStep p 1 (step.Jump to)
   jump_does to f q first ts ls node r t e h =
-      begins p lay 1 (act p.ir p.readings node (step.Jump to) f q first ts ls r) (step.Jump to) f q first node ts ls r t e h (λ all own segment sp ps rr m st y stage low stands code.
+      begins p lay 1 (act p.ir p.readings node (step.Jump to) f q first ts ls r) (step.Jump to) f q first node ts ls r t e h
+      (λ all own segment sp ps rr m st y stage low stands code.
       let a : ℕ = step_at p f to in
       let r2 : ℕ → ℕ = set_reg (set_reg rr 0 (rr 0 + 4)) 0 a in
       goes p.code p.low p.high segment sp ps stage.ground (StandsAt p (At f to first ts ls) r) 0 all stage.shape rr m st

@@ -56,7 +56,8 @@ pub record IsRead (alive : List Placed) (own : Cells) (number base offset : ℕ)
   pub cell : own (base + offset) ≡ Some (cell_of k (Some word))
   pub code : HasCode (value_code alive v) word
 
-pub reads : (core : Core) (s : State) (own : Cells) (l : Location) (k : Kind) (v : Value) → accessed s l k ≡ Ok v → is_missing v ≡ false
+pub reads : (core : Core) (s : State) (own : Cells) (l : Location) (k : Kind) (v : Value) → accessed s l k ≡ Ok v
+    → is_missing v ≡ false
     → IsCovered core (kept s) own → AreFilled own (placed core (kept s)) → AreWhole (placed core (kept s))
     → (n : ℕ) × (l.object ≡ Some n) × (base : ℕ) × IsRead (placed core (kept s)) own n base l.offset k v
 reads core s own l k v e defined covered filled whole =
@@ -106,7 +107,8 @@ local_stands p lay s all own segment sp f q first n ts ls base o k (c ∷ cs) e 
     ap (λ (g : ℕ). offset_in p.core.structs (slice_get p.core.functions g) n) h.0.function in
     let local = lay.locals f n in
     let plain : 0 + n ≡ n = omega arith in
-    sym is ∙ ap (local_address p.core c) plain ∙ ap (λ (b : ℕ). b + offset_in p.core.structs (slice_get p.core.functions c.function) n) frame
+    sym is ∙ ap (local_address p.core c) plain
+    ∙ ap (λ (b : ℕ). b + offset_in p.core.structs (slice_get p.core.functions c.function) n) frame
     ∙ ap (λ (b : ℕ). sp + b) (function ∙ sym local)
 
 -- a variable stands where the form has it
@@ -129,7 +131,8 @@ pub local_found : (p : Setting) (lay : IsLaid p) (s : State) (next : ℕ) (all o
 local_found p lay s next all own segment sp f q first n ts ls [] made e h few = absurd h
 local_found p lay s next all own segment sp f q first n ts ls (c ∷ cs) made e h few =
     let alive : List Placed = placed p.core (kept s) in
-    let mine = in_youngest p.core (λ x. address_of alive x.object.number ≡ Some x.address) s c cs e (lay.found next (kept s) made) in
+    let mine = in_youngest p.core
+    (λ x. address_of alive x.object.number ≡ Some x.address) s c cs e (lay.found next (kept s) made) in
     let count = h.0.locals in
     let x = nth_object first (local_address p.core c) 0 n c.locals h.0.numbers (omega arith) in
     let is : address_of alive x.object.number ≡ Some (local_address p.core c (0 + n)) =
@@ -144,7 +147,8 @@ local_found p lay s next all own segment sp f q first n ts ls (c ∷ cs) made e 
     ∙ ap (λ (b : ℕ). sp + b) (function ∙ sym (lay.locals f n)) in
     ap (address_of alive) (sym x.number) ∙ is ∙ ap (λ (a : ℕ). Some a) place
 
-pub global_found : (p : Setting) (lay : IsLaid p) (s : State) (next n : ℕ) → IsMade p.core next (kept s) → n < length p.core.globals
+pub global_found : (p : Setting) (lay : IsLaid p) (s : State) (next n : ℕ) → IsMade p.core next (kept s)
+    → n < length p.core.globals
     → address_of (placed p.core (kept s)) n ≡ Some (address_or (slice_get p.ir.globals n))
 global_found p lay s next n made few =
     let alive : List Placed = placed p.core (kept s) in

@@ -119,7 +119,8 @@ found_from address i (x ∷ os) n o e = from (nat_eq x.number n) refl e (λ k. f
           m.0,
           record {
             number = m.1.number;
-            address = ap (λ (b : Bool). if b then Some (address i) else address_of (placed_from address (i + 1) os) n) is ∙ m.1.address;
+            address = ap (λ (b : Bool). if b then Some (address i) else address_of (placed_from address (i + 1) os) n) is
+                ∙ m.1.address;
             among = λ P h. m.1.among P h.1;
           },
         )
@@ -173,7 +174,8 @@ missing_calls core (c ∷ cs) n e = from (find_object n c.locals) refl e (λ k. 
         → (find_local n cs ≡ None → address_of (placed_in_calls core cs) n ≡ None)
         → address_of (own ++ placed_in_calls core cs) n ≡ None
     from (Some y) is k more = some_none y (sym k)
-    from None is k more = address_right own (placed_in_calls core cs) n (missing_from (local_address core c) 0 c.locals n is) ∙ more k
+    from None is k more = address_right own (placed_in_calls core cs) n (missing_from (local_address core c) 0 c.locals n is)
+        ∙ more k
 
 pub missing_object : (core : Core) (s : State) (n : ℕ) → object_of s n ≡ None → address_of (placed core (kept s)) n ≡ None
 unfolding object_of
@@ -251,7 +253,8 @@ accesses core s l k v e = in_object l.object refl e
     same a j = cc
 
     in_kind : (n : ℕ) (o : Object) (c : Scalar) (t : Bool) → l.object ≡ Some n → object_of s n ≡ Some o
-        → find_cell l.offset o.cells ≡ Some c → same_kind c.kind k ≡ t → (if t then fine c.value else wrong 5) ≡ fine v → Accessed core s l k v
+        → find_cell l.offset o.cells ≡ Some c → same_kind c.kind k ≡ t → (if t then fine c.value else wrong 5) ≡ fine v
+        → Accessed core s l k v
     in_kind n o c true here there at_c is j =
         let f = found_object core s n o there in
         let g = found_cell o.cells l.offset c at_c in
@@ -271,7 +274,8 @@ accesses core s l k v e = in_object l.object refl e
     in_cell n o None here there at_c j = broken 5 j
     in_cell n o (Some c) here there at_c j = in_kind n o c (same_kind c.kind k) here there at_c refl j
 
-    in_number : (n : ℕ) (o : Option Object) → l.object ≡ Some n → object_of s n ≡ o → value_of l.offset k o ≡ Ok v → Accessed core s l k v
+    in_number : (n : ℕ) (o : Option Object) → l.object ≡ Some n → object_of s n ≡ o → value_of l.offset k o ≡ Ok v
+        → Accessed core s l k v
     in_number n None here there j = broken 6 j
     in_number n (Some o) here there j = in_cell n o (find_cell l.offset o.cells) here there refl j
 
@@ -285,7 +289,8 @@ accesses core s l k v e = in_object l.object refl e
 pub record IsNth (first : ℕ) (address : ℕ → ℕ) (i n : ℕ) (os : List Object) : Type 1 where
   pub object : Object
   pub number : object.number ≡ first + n
-  pub among : (P : Placed → Type 0) → Every P (placed_from address i os) → P (record { object = object; address = address (i + n) })
+  pub among : (P : Placed → Type 0) → Every P (placed_from address i os)
+      → P (record { object = object; address = address (i + n) })
 
 pub nth_object : (first : ℕ) (address : ℕ → ℕ) (i n : ℕ) (os : List Object) → NumberedFrom first os → n < length os
     → IsNth first address i n os

@@ -51,12 +51,14 @@ module _ (p : Setting) (lay : IsLaid p) where
       stands : StepStands p f q (record { node = node; kind = k })
       stands = lay.steps f q (record { node = node; kind = k }) e
 
-      from : (base : ℕ) → Stage p r.state r.next (level f q first ts ∷ ls) h.all h.own h.segment base h.sp h.pointers h.r h.m h.settled
+      from : (base : ℕ) → Stage p r.state r.next
+          (level f q first ts ∷ ls) h.all h.own h.segment base h.sp h.pointers h.r h.m h.settled
           → IsAt p (placed p.core (kept r.state)) h.all h.own h.segment base h.sp h.r (At f q first ts ls)
           → Follows p limit o (at h.segment h.pointers h.r h.m h.settled (outside r.state.marks (drop r.used p.readings)) h.meter)
       from base stage (Between b low pc) =
           go h.all h.own h.segment h.sp h.pointers h.r h.m h.settled h.meter
-          (subst (λ (x : ℕ). Stage p r.state r.next (level f q first ts ∷ ls) h.all h.own h.segment x h.sp h.pointers h.r h.m h.settled) b stage)
+          (subst (λ (x : ℕ). Stage p r.state r.next
+          (level f q first ts ∷ ls) h.all h.own h.segment x h.sp h.pointers h.r h.m h.settled) b stage)
           low stands
           (record {
             code = subst (λ (x : ℕ). Placed p.code p.low p.high x (step_code p f k)) (sym pc) stands.code;
@@ -108,9 +110,11 @@ module _ (p : Setting) (lay : IsLaid p) where
       → From p f (rr 0) (keep p.ir (function_of p f) d k) (step_at p f q2) → length us ≡ d
       → temporaries_at (function_of p f) + 2 * d + 2 ≤ (function_of p f).frame
       → set_reg rr 0 (rr 0 + 4) k ≡ w → HasCode (temporary_code (placed p.core (kept r.state)) t) w
-      → Leads (suc n) (at segment ps rr m st (outside r.state.marks (drop r.used p.readings)) y) (StandsAt p (At f q2 first (t ∷ us) ls) r)
+      → Leads (suc n) (at segment ps rr m st (outside r.state.marks (drop r.used p.readings)) y) (StandsAt p (At f q2 first
+      (t ∷ us) ls) r)
   keeps_last n f q q2 first d k w t us ls r all own segment sp ps rr m st y stage low code depth room is has =
-      let c = from_do p f (rr 0) (Two Mov false (Reg k) (ToIndexed 1 (temporary_at (function_of p f) d))) [] (step_at p f q2) code in
+      let c = from_do p f (rr 0) (Two Mov false (Reg k) (ToIndexed 1 (temporary_at (function_of p f) d))) []
+      (step_at p f q2) code in
       keeps p (StandsAt p (At f q2 first (t ∷ us) ls) r) n r.state r.next all own segment sp ps rr m st
       (outside r.state.marks (drop r.used p.readings)) y f q q2 first d k w t us ls stage c.0 depth (omega arith) is has
       (λ all2 m2 st2 y2 stage2.
@@ -118,7 +122,8 @@ module _ (p : Setting) (lay : IsLaid p) where
 
 -- the temporaries that an operand leaves
 pub left_by : (p : Setting) (s : State) (next : ℕ) (all own : Cells) (segment base sp : ℕ) (ps r m : ℕ → ℕ) (st : Bytes)
-    (f q first : ℕ) (X : Operand) (ts : List Temporary) (v : Value) (us : List Temporary) (ls : List Frame) → Gives s first X ts v us
+    (f q first : ℕ) (X : Operand) (ts : List Temporary) (v : Value) (us : List Temporary) (ls : List Frame)
+    → Gives s first X ts v us
     → Stage p s next (level f q first ts ∷ ls) all own segment base sp ps r m st
     → Stage p s next (level f q first us ∷ ls) all own segment base sp ps r m st
 left_by p s next all own segment base sp ps r m st f q first X ts v us ls OfTop h =

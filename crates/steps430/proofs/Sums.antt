@@ -233,17 +233,21 @@ module _ (p : Setting) (lay : IsLaid p) where
       let there_a : is_missing a ≡ false = ap is_missing num.is_left in
       let there_b : is_missing b ≡ false = ap is_missing num.is_right in
       let whole = falls p lay (step.Binary d (operation.Integers o t kind) left right) f q node (rr 0) tt stands code in
-      let split : From p f (rr 0) (bring p.ir fn left d 12 ++ (bring p.ir fn right (d + taken left) 13 ++ (operate o t ++ keep p.ir fn d 12))) end =
+      let split : From p f (rr 0) (bring p.ir fn left d 12 ++ (bring p.ir fn right (d + taken left) 13 ++
+      (operate o t ++ keep p.ir fn d 12))) end =
       subst (λ (parts : List Part). From p f (rr 0) parts end)
-      (append_assoc (bring p.ir fn left d 12) (bring p.ir fn right (d + taken left) 13) (operate o t ++ keep p.ir fn d 12)) whole in
+      (append_assoc (bring p.ir fn left d 12) (bring p.ir fn right (d + taken left) 13)
+      (operate o t ++ keep p.ir fn d 12)) whole in
       let parts : From p f (rr 0) (bring p.ir fn left d 12 ++ (bring p.ir fn right (d + taken left) 13
       ++ (Do (Two i false (Reg 13) (ToReg 12)) ∷ keep p.ir fn d 12))) end =
-      subst (λ (xs : List Part). From p f (rr 0) (bring p.ir fn left d 12 ++ (bring p.ir fn right (d + taken left) 13 ++ (xs ++ keep p.ir fn d 12))) end)
+      subst (λ (xs : List Part). From p f (rr 0) (bring p.ir fn left d 12 ++ (bring p.ir fn right (d + taken left) 13 ++
+      (xs ++ keep p.ir fn d 12))) end)
       (operate_is o i t plain) split in
       let Q = StandsAt p (At f (q + 1) first (temporary.Value c ∷ ws) ls) r in
       let x : Course = outside r.state.marks (drop r.used p.readings) in
       brings_two p lay Q r.state r.next all own segment sp ps rr m st x y f q first ls 2 left right ts us ws a b d 12 13 end
-      (Do (Two i false (Reg 13) (ToReg 12)) ∷ keep p.ir fn d 12) stage g k there_a there_b depth stands.named parts (omega arith) (omega arith)
+      (Do (Two i false (Reg 13) (ToReg 12)) ∷ keep p.ir fn d 12) stage g k there_a there_b depth stands.named parts
+      (omega arith) (omega arith)
       (λ v w pc pc2 st2 y2 has_a has_b code2 stage2.
       let r1 : ℕ → ℕ = set_reg (set_reg (set_reg (set_reg rr 0 pc) 12 v) 0 pc2) 13 w in
       let here = from_do p f pc2 (Two i false (Reg 13) (ToReg 12)) (keep p.ir fn d 12) end code2 in

@@ -59,7 +59,8 @@ pub data IsNumber : Src → ℕ → Type 0 where
   Own : {w : ℕ} → IsNumber (Immediate w) w
   Generated : (g : Gen) → IsNumber (Constant g) (constant_of g)
 
-number_from : (n : ℕ) (b0 b1 b2 b4 b8 : Bool) → nat_eq n 0 ≡ b0 → nat_eq n 1 ≡ b1 → nat_eq n 2 ≡ b2 → nat_eq n 4 ≡ b4 → nat_eq n 8 ≡ b8
+number_from : (n : ℕ) (b0 b1 b2 b4 b8 : Bool) → nat_eq n 0 ≡ b0 → nat_eq n 1 ≡ b1 → nat_eq n 2 ≡ b2 → nat_eq n 4 ≡ b4
+    → nat_eq n 8 ≡ b8
     → IsNumber (constant (pos n)) (wrapped (pos n))
 number_from n true b1 b2 b4 b8 e0 e1 e2 e4 e8 =
     subst (λ (k : ℕ). IsNumber (constant (pos k)) (wrapped (pos k))) (sym (eqb-true n 0 e0)) (Generated _)
@@ -73,16 +74,22 @@ number_from n false false false false true e0 e1 e2 e4 e8 =
     subst (λ (k : ℕ). IsNumber (constant (pos k)) (wrapped (pos k))) (sym (eqb-true n 8 e8)) (Generated _)
 number_from n false false false false false e0 e1 e2 e4 e8 =
     subst (λ (x : Src). IsNumber x (wrapped (pos n))) (sym
-    (ap (λ (b : Bool). if b then Constant Zero else (if nat_eq n 1 then Constant ConstantOne else (if nat_eq n 2 then Constant ConstantTwo else (if nat_eq n 4 then Constant Four else (if nat_eq n 8 then Constant Eight else Immediate (wrapped (pos n))))))) e0
-    ∙ ap (λ (b : Bool). if b then Constant ConstantOne else (if nat_eq n 2 then Constant ConstantTwo else (if nat_eq n 4 then Constant Four else (if nat_eq n 8 then Constant Eight else Immediate (wrapped (pos n)))))) e1
-    ∙ ap (λ (b : Bool). if b then Constant ConstantTwo else (if nat_eq n 4 then Constant Four else (if nat_eq n 8 then Constant Eight else Immediate (wrapped (pos n))))) e2
+    (ap (λ (b : Bool). if b then Constant Zero else (if nat_eq n 1 then Constant ConstantOne else
+    (if nat_eq n 2 then Constant ConstantTwo else (if nat_eq n 4 then Constant Four else
+    (if nat_eq n 8 then Constant Eight else Immediate (wrapped (pos n))))))) e0
+    ∙ ap (λ (b : Bool). if b then Constant ConstantOne else (if nat_eq n 2 then Constant ConstantTwo else
+    (if nat_eq n 4 then Constant Four else (if nat_eq n 8 then Constant Eight else Immediate (wrapped (pos n)))))) e1
+    ∙ ap (λ (b : Bool). if b then Constant ConstantTwo else (if nat_eq n 4 then Constant Four else
+    (if nat_eq n 8 then Constant Eight else Immediate (wrapped (pos n))))) e2
     ∙ ap (λ (b : Bool). if b then Constant Four else (if nat_eq n 8 then Constant Eight else Immediate (wrapped (pos n)))) e4
     ∙ ap (λ (b : Bool). if b then Constant Eight else Immediate (wrapped (pos n))) e8)) Own
 
 negative_from : (n : ℕ) (b : Bool) → nat_eq n 0 ≡ b → IsNumber (constant (negsuc n)) (wrapped (negsuc n))
-negative_from n true e = subst (λ (k : ℕ). IsNumber (constant (negsuc k)) (wrapped (negsuc k))) (sym (eqb-true n 0 e)) (Generated _)
+negative_from n true e = subst
+    (λ (k : ℕ). IsNumber (constant (negsuc k)) (wrapped (negsuc k))) (sym (eqb-true n 0 e)) (Generated _)
 negative_from n false e =
-    subst (λ (x : Src). IsNumber x (wrapped (negsuc n))) (sym (ap (λ (b : Bool). if b then Constant MinusOne else Immediate (wrapped (negsuc n))) e)) Own
+    subst (λ (x : Src). IsNumber x (wrapped (negsuc n))) (sym (ap
+    (λ (b : Bool). if b then Constant MinusOne else Immediate (wrapped (negsuc n))) e)) Own
 
 -- the source of a constant
 pub number_is : (z : ℤ) → IsNumber (constant z) (wrapped z)
@@ -91,11 +98,13 @@ number_is (negsuc n) = negative_from n (nat_eq n 0) refl
 
 module _ (p : Setting) (Q : Ideal → Type 0) where
   -- a number comes into a register
-  pub brings_number : (n : ℕ) (s : State) (next : ℕ) (frames : List Frame) (all own : Cells) (segment base sp : ℕ) (ps r m : ℕ → ℕ)
+  pub brings_number : (n : ℕ) (s : State) (next : ℕ) (frames : List Frame) (all own : Cells) (segment base sp : ℕ)
+      (ps r m : ℕ → ℕ)
       (st : Bytes) (x : Course) (y : Meter) (src : Src) (k w : ℕ) → Stage p s next frames all own segment base sp ps r m st
       → IsNumber src w → Here p.code p.low p.high (r 0) (Two Mov false src (ToReg k)) → 4 ≤ k
       → ((st2 : Bytes) (y2 : Meter)
-      → Stage p s next frames all own segment base sp ps (set_reg (set_reg r 0 (r 0 + size_of (Two Mov false src (ToReg k)))) k w) m st2
+      → Stage p s next frames all own segment base sp ps (set_reg (set_reg r 0 (r 0 + size_of (Two Mov false src
+      (ToReg k)))) k w) m st2
       → Leads n (at segment ps (set_reg (set_reg r 0 (r 0 + size_of (Two Mov false src (ToReg k)))) k w) m st2 x y2) Q)
       → Leads (suc n) (at segment ps r m st x y) Q
   brings_number n s next frames all own segment base sp ps r m st x y src k w h Own here four more =
@@ -121,20 +130,23 @@ module _ (p : Setting) (Q : Ideal → Type 0) where
       let stack : r2 1 ≡ sp = simp (ne_eqb 1 k n1) (h.stack) in
       let effect : two_at Mov false (Constant g) (ToReg k) r m (Given (constant_of g)) (InRegister k) ≡ Sets r2 =
       simp (ne_eqb k 2 n2, ne_eqb k 3 n3) in
-      sets p.code p.low p.high segment sp ps h.ground Q n all h.shape r m st x y Mov false (Constant g) (ToReg k) (Given (constant_of g))
+      sets p.code p.low p.high segment sp ps h.ground Q n all h.shape r m st x y Mov false (Constant g) (ToReg k) (Given
+      (constant_of g))
       (InRegister k) r2 h.facts h.words here generated to_register effect tt tt pc stack
       (λ st2 y2 facts wide. more st2 y2 (with_regs p s next all own segment base sp ps frames r m r2 st st2 stack wide facts h))
 
   -- what a cell has comes into a register: a word, or a byte
   pub brings_cell : (n : ℕ) (s : State) (next : ℕ) (frames : List Frame) (all own : Cells) (segment base sp : ℕ) (ps r m : ℕ → ℕ)
-      (st : Bytes) (x : Course) (y : Meter) (byte : Bool) (src : Src) (a k w : ℕ) → Stage p s next frames all own segment base sp ps r m st
+      (st : Bytes) (x : Course) (y : Meter) (byte : Bool) (src : Src) (a k w : ℕ)
+      → Stage p s next frames all own segment base sp ps r m st
       → Here p.code p.low p.high (r 0) (Two Mov byte src (ToReg k)) → 4 ≤ k
       → Source byte (next_regs (Two Mov byte src (ToReg k)) r) src (InMemory a)
       → two_given Mov byte src (ToReg k) r m (InRegister k) w
       ≡ Sets (set_reg (set_reg r 0 (r 0 + size_of (Two Mov byte src (ToReg k)))) k w)
       → all a ≡ Some (cell_by (not byte) (Some w))
       → ((st2 : Bytes) (y2 : Meter)
-      → Stage p s next frames all own segment base sp ps (set_reg (set_reg r 0 (r 0 + size_of (Two Mov byte src (ToReg k)))) k w) m st2
+      → Stage p s next frames all own segment base sp ps (set_reg (set_reg r 0 (r 0 + size_of (Two Mov byte src
+      (ToReg k)))) k w) m st2
       → Leads n (at segment ps (set_reg (set_reg r 0 (r 0 + size_of (Two Mov byte src (ToReg k)))) k w) m st2 x y2) Q)
       → Leads (suc n) (at segment ps r m st x y) Q
   brings_cell n s next frames all own segment base sp ps r m st x y false src a k w h here four source effect cell more =

@@ -49,7 +49,8 @@ wrapped_small (pos n) = omega arith
 wrapped_small (negsuc n) = omega arith
 
 pub wrapped_sum : (x y : ℤ) → wrapped (x +ℤ y) ≡ (wrapped x + wrapped y) % 65536
-wrapped_sum x y = wrapped_same (x +ℤ y) (wrapped x + wrapped y) (same_sum x y (wrapped x) (wrapped y) (same_wrapped x) (same_wrapped y))
+wrapped_sum x y = wrapped_same (x +ℤ y) (wrapped x + wrapped y) (same_sum x y (wrapped x) (wrapped y) (same_wrapped x)
+    (same_wrapped y))
 
 pub wrapped_difference : (x y : ℤ) → wrapped (x -ℤ y) ≡ (wrapped x + 65536 - wrapped y) % 65536
 wrapped_difference x y =
