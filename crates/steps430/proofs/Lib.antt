@@ -17,3 +17,5 @@ pub mod Conditions
 pub mod Orders
 pub mod Numbers
 pub mod Services
+pub mod Branches
+pub mod Cases

@@ -139,7 +139,7 @@ truth_word : (b : Bool) → wrapped (truth b) ≡ flag b
 truth_word true = refl
 truth_word false = refl
 
-answer : (b c : Bool) (k : ℤ) → good (truth b) ≡ good k → c ≡ b → wrapped k ≡ flag c
+pub answer : (b c : Bool) (k : ℤ) → good (truth b) ≡ good k → c ≡ b → wrapped k ≡ flag c
 answer b c k e f = ap wrapped (sym (same_number (truth b) k e)) ∙ truth_word b ∙ ap flag (sym f)
 
 -- ---- the step

@@ -93,8 +93,8 @@ Stacked p all own segment sp _ _ = ⊥
 
 -- ---- what stands
 
--- Where the machine is in a state of a run with these live calls, in which so many objects came to life. `all` are its cells, and `own` those of the state. The
--- youngest frame begins at `base`, and the stack pointer is `sp`.
+-- Where the machine is in a state of a run with these live calls, in which so many objects came to life. `all` are its cells,
+-- and `own` those of the state. The youngest frame begins at `base`, and the stack pointer is `sp`.
 pub record Stage (p : Setting) (s : State) (next : ℕ) (frames : List Frame) (all own : Cells) (segment base sp : ℕ)
     (pointers r m : ℕ → ℕ) (settled : Bytes) : Type 0 where
   pub ground : Ground p.low p.high segment sp
