@@ -75,7 +75,7 @@ module _ (p : Setting) (Q : Ideal → Type 0) (n : ℕ) (s : State) (next : ℕ)
       (with_regs p s next all own segment base sp ps frames r m (after 4 w) st st2 h.stack wide facts h))
   compares_number src w (Generated g) h here more =
       sets p.code p.low p.high segment sp ps h.ground Q n all h.shape r m st x y Cmp false (Constant g) (ToReg 12) (Given
-          (constant_of g))
+      (constant_of g))
       (InRegister 12) (after 2 (constant_of g)) h.facts h.words here generated to_register refl tt tt refl h.stack
       (λ st2 y2 facts wide. more (after 2 (constant_of g)) st2 y2 refl refl
       (with_regs p s next all own segment base sp ps frames r m (after 2 (constant_of g)) st st2 h.stack wide facts h))
@@ -113,7 +113,7 @@ module _ (p : Setting) (lay : IsLaid p) where
   pub case_does : (d : ℕ) (of : IntType) (n : ℤ) (to : ℕ) → number of n ≡ n → DoesStep p 4 (step.Case d of n to)
   case_does d of n to typed f q first ts ls node r u e h =
       begins p lay 4 (act p.ir p.readings node (step.Case d of n to) f q first ts ls r)
-          (step.Case d of n to) f q first node ts ls r u e h
+      (step.Case d of n to) f q first node ts ls r u e h
       (λ all own segment sp ps rr m st y stage low stands code.
       value_follows p 4 _ ts _ r (λ v us is.
       depth_follows p 4 _ d us _ r (λ depth.
@@ -136,7 +136,7 @@ module _ (p : Setting) (lay : IsLaid p) where
       ended v us false all own segment sp ps r3 m st y stage low pc =
           stands_next p lay f (q + 1) first (temporary.Value v ∷ us) ls r all own segment sp ps r3 m st y
           (with_level p r.state r.next all own segment sp sp ps f q (q + 1) first (temporary.Value v ∷ us)
-              (temporary.Value v ∷ us) ls
+          (temporary.Value v ∷ us) ls
           r3 m st (λ a k. k) stage) low pc
 
       chosen : (v : Value) (us : List Temporary) → ts ≡ temporary.Value v ∷ us → length us ≡ d → (z : ℤ)
@@ -152,28 +152,28 @@ module _ (p : Setting) (lay : IsLaid p) where
           let end : ℕ = step_at p f (q + 1) in
           let num = is_integer of v z ok in
           let Q : Ideal → Type 0 = StandsAt p (if b then At f to first us ls else At f (q + 1) first
-              (temporary.Value v ∷ us) ls) r in
+          (temporary.Value v ∷ us) ls) r in
           brings_top p lay Q r.state r.next all own segment sp ps rr m st x y f q first ls 3 (temporary.Value v) us d 12 end
           (Do (Two Cmp false (constant n) (ToReg 12)) ∷ GoUnless Nz to ∷ [])
           (subst (λ (xs : List Temporary). Stage p r.state r.next
-              (level f q first xs ∷ ls) all own segment sp sp ps rr m st) is stage)
+          (level f q first xs ∷ ls) all own segment sp sp ps rr m st) is stage)
           (ap (λ (k : Value). not (is_missing k)) num.is) depth code (omega arith) (λ w pc st2 y2 has code2 stage2.
           let r1 : ℕ → ℕ = set_reg (set_reg rr 0 pc) 12 w in
           let c = from_do p f pc (Two Cmp false (constant n) (ToReg 12)) (GoUnless Nz to ∷ []) end code2 in
           let word : w ≡ wrapped num.plain = subst (λ (k : Value). HasCode (value_code alive k) w) num.is has in
           compares_number p Q 2 r.state r.next (level f q first
-              (temporary.Value v ∷ us) ∷ ls) all own segment sp sp ps r1 m st2 x y2
+          (temporary.Value v ∷ us) ∷ ls) all own segment sp sp ps r1 m st2 x y2
           (constant n) (wrapped n) (number_is n) stage2 c.0 (λ r2 st3 y3 at_pc in_flags stage3.
           let equal : int_eq (number of num.plain) (number of n) ≡ nat_eq (wrapped num.plain)
-              (wrapped n) = same_numbers of num.plain n in
+          (wrapped n) = same_numbers of num.plain n in
           let told : b ≡ nat_eq (wrapped num.plain) (wrapped n) =
           sym sure ∙ ap (λ (k : ℤ). int_eq k n) (sym num.same) ∙ ap (λ (k : ℤ). int_eq (number of num.plain) k) (sym typed)
-              ∙ equal in
+          ∙ equal in
           let flags : is_taken Nz (r2 2) ≡ not b =
           ap (λ (k : ℕ). is_taken Nz k) (in_flags ∙ ap (λ (k : ℕ). difference_status false (r1 2) false k (wrapped n)) word)
           ∙ ap not (compare_zero false (r1 2) (wrapped num.plain) (wrapped n) (wrapped_small num.plain) (wrapped_small n))
-              ∙ ap not (sym told) in
+          ∙ ap not (sym told) in
           goes_unless p lay Q 0 r.state r.next (level f q first
-              (temporary.Value v ∷ us) ∷ ls) all own segment sp sp ps r2 m st3 x y3 f to
+          (temporary.Value v ∷ us) ∷ ls) all own segment sp sp ps r2 m st3 x y3 f to
           end Nz (not b) stage3 flags (subst (λ (k : ℕ). From p f k (GoUnless Nz to ∷ []) end) (sym at_pc) c.1)
           (λ r3 st4 y4 at_target stage4. leads_now 0 _ Q (ended v us b all own segment sp ps r3 m st4 y4 stage4 low at_target))))

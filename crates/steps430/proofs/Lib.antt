@@ -19,3 +19,5 @@ pub mod Numbers
 pub mod Services
 pub mod Branches
 pub mod Cases
+pub mod Results
+pub mod Units
