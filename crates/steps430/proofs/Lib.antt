@@ -21,3 +21,4 @@ pub mod Branches
 pub mod Cases
 pub mod Results
 pub mod Units
+pub mod Calling

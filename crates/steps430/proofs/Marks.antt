@@ -50,7 +50,7 @@ pub own_facts : (c : ℕ → ℕ) (lo hi : ℕ) (all own : Cells) (m : ℕ → �
     → ((b : ℕ) (x : Cell) → own b ≡ Some x → all b ≡ Some x) → Facts c lo hi all m st → Facts c lo hi own m st
 own_facts c lo hi all own m st part h = facts_fewer c lo hi all own m st part h
 
-none_in : (all own : Cells) (b : ℕ) → ((y : Cell) → own b ≡ Some y → all b ≡ Some y) → all b ≡ None → own b ≡ None
+pub none_in : (all own : Cells) (b : ℕ) → ((y : Cell) → own b ≡ Some y → all b ≡ Some y) → all b ≡ None → own b ≡ None
 none_in all own b part e = from (own b) refl
   where
     from : (o : Option Cell) → own b ≡ o → own b ≡ None
