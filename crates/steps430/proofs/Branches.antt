@@ -1,8 +1,7 @@
 -- Jumps that are made where a comparison comes out as it is asked for.
-use Rattle.std.proofs.Common.{◌≡◌, ℕ, zero, suc, ◌+◌, ◌-◌, ◌*◌, ◌%◌, ◌<◌, ◌≤◌, refl, sym, ap, ◌∙◌, subst, arith, Bool, true, false, not, List, [], ◌∷◌, ◌++◌, length, drop, max, Option, Some, None, Result, Ok, Err, if◌then◌else◌}
+use Rattle.std.proofs.Common.{◌≡◌, ℕ, suc, ◌+◌, refl, sym, ap, ◌∙◌, subst, arith, Bool, true, false, not, List, [], ◌∷◌, ◌++◌, drop, Result, Ok, if◌then◌else◌}
 use Rattle.std.proofs.lemmas.List.{append_assoc}
-use Rattle.std.specs.Prelude.{ℤ, pos, nat_lt, int_lt, int_le}
-use Rattle.base16.specs.Board.{segment_start}
+use Rattle.std.specs.Prelude.{ℤ, pos, int_lt, int_le}
 use Rattle.base16.specs.Integer.{wrapped, signed}
 use Rattle.base16.specs.declared.integer.IntType.{IntType}
 use Rattle.base16.specs.declared.integer.IntType.TheVariants as int
@@ -10,7 +9,7 @@ use Rattle.base16.specs.declared.operator.BinaryOp.{BinaryOp}
 use Rattle.base16.specs.declared.operator.BinaryOp.TheVariants as op
 use Rattle.isa430.specs.declared.instr.TwoOp.TheVariants.{Mov, Cmp}
 use Rattle.isa430.specs.declared.instr.Cond.{Cond}
-use Rattle.isa430.specs.declared.instr.Cond.TheVariants.{Nz, Z, Nc, C, N, Ge, Less, Always}
+use Rattle.isa430.specs.declared.instr.Cond.TheVariants.{Nz, Z, Nc, C, Ge, Less}
 use Rattle.isa430.specs.declared.instr.Src.TheVariants.{Reg, Immediate}
 use Rattle.isa430.specs.declared.instr.Dst.TheVariants.{Reg as ToReg}
 use Rattle.isa430.specs.declared.instr.Instr.TheVariants.{Two}
@@ -22,7 +21,6 @@ use Rattle.run430.proofs.Operands.{given, to_register}
 use Rattle.ideal430.specs.Ideal.{Ideal, Meter}
 use Rattle.ideal430.specs.Settled.{Bytes}
 use Rattle.c_run.specs.Actions.{kept}
-use Rattle.c_run.specs.Runs.{Run}
 use Rattle.c_values.specs.Operators.{number, is_zero, int_eq, binary}
 use Rattle.c_values.specs.Pointers.{truth_of}
 use Rattle.c_values.specs.Values.{right_type, numbered}

@@ -1,7 +1,7 @@
 -- A call: R14 says where the arguments are, and the word to which the function returns is pushed.
-use Rattle.std.proofs.Common.{◌≡◌, ◌≢◌, ℕ, zero, suc, ◌+◌, ◌-◌, ◌*◌, ◌%◌, ◌<◌, ◌≤◌, refl, sym, ap, ◌∙◌, subst, arith, Bool, true, false, List, [], ◌∷◌, ◌++◌, length, drop, reverse, max, Option, Some, None, Result, Ok, Err}
-use Rattle.std.specs.Prelude.{ℤ, pos}
-use Rattle.base16.specs.Board.{outputs_end, segment_start}
+use Rattle.std.proofs.Common.{◌≡◌, ◌≢◌, ℕ, zero, suc, ◌+◌, ◌-◌, ◌<◌, ◌≤◌, refl, sym, ap, ◌∙◌, subst, arith, false, List, [], ◌∷◌, drop, reverse, Some, None}
+use Rattle.std.specs.Prelude.{pos}
+use Rattle.base16.specs.Board.{segment_start}
 use Rattle.base16.specs.Integer.{wrapped}
 use Rattle.isa430.specs.declared.instr.TwoOp.TheVariants.{Mov, Add}
 use Rattle.isa430.specs.declared.instr.OneOp.TheVariants.{Call}
@@ -24,22 +24,20 @@ use Rattle.c_run.specs.Runs.{Run, Action}
 use Rattle.c_values.specs.Values.{all_present}
 use Rattle.c_values.specs.declared.state.State.{State}
 use Rattle.c_values.specs.declared.value.Value.{Value}
-use Rattle.cells430.specs.Cells.{Cell, Word, Cells, set_cell, Facts}
+use Rattle.cells430.specs.Cells.{Word, Cells, set_cell, Facts}
 use Rattle.cells430.specs.Stretch.{Course, outside, at, Leads}
 use Rattle.cells430.proofs.Cells.{set_cell-same, set_cell-other, some_none, none_below}
 use Rattle.cells430.proofs.Lift.{sets, leads_now}
 use Rattle.cells430.proofs.Calls.{then_comes, pushed_shape, calls}
 use Rattle.ir.specs.declared.control.Control.{Control}
-use Rattle.ir.specs.declared.control.Control.TheVariants.{At, Calling}
+use Rattle.ir.specs.declared.control.Control.TheVariants.{Calling}
 use Rattle.ir.specs.declared.control.Temporary.{Temporary}
-use Rattle.ir.specs.declared.control.Temporary.TheVariants as temporary
 use Rattle.ir.specs.declared.control.Frame.{Frame}
 use Rattle.ir.specs.declared.form.IrFunction.{IrFunction}
 use Rattle.ir.specs.declared.form.StepKind.TheVariants as step
 use Rattle.ir.specs.Machine.{act, on_args, waiting}
-use Rattle.matching.specs.Matches.{Placed, placed}
-use Rattle.select430.specs.Frames.{temporaries_at, temporary_at}
-use Rattle.select430.specs.declared.part.Part.{Part}
+use Rattle.matching.specs.Matches.{placed}
+use Rattle.select430.specs.Frames.{temporary_at}
 use Rattle.select430.specs.declared.part.Part.TheVariants.{Do, Enters}
 use Rattle.select430.specs.Code.{constant}
 use Rattle.steps430.specs.Setting.{Setting, function_of, step_at, IsLaid}
@@ -47,7 +45,7 @@ use Rattle.steps430.specs.Holds.{with_args}
 use Rattle.steps430.specs.Standing.{Stage, Entering, StandsAt}
 use Rattle.steps430.specs.Follows.{Follows, DoesStep}
 use Rattle.steps430.proofs.Keeping.{Lower, stack_off, holds_off}
-use Rattle.steps430.proofs.Moves.{From, from_do, level, top_of, with_regs, with_level}
+use Rattle.steps430.proofs.Moves.{from_do, level, top_of, with_regs, with_level}
 use Rattle.steps430.proofs.Outcomes.{value_follows, depth_follows, given_follows}
 use Rattle.steps430.proofs.Values.{IsNumber, Own, Generated, number_is}
 use Rattle.steps430.proofs.Steps.{begins, falls}

@@ -1,5 +1,5 @@
 -- A jump where a number is a given one.
-use Rattle.std.proofs.Common.{◌≡◌, ℕ, zero, suc, ◌+◌, ◌-◌, ◌*◌, ◌%◌, ◌<◌, ◌≤◌, refl, sym, ap, ◌∙◌, subst, arith, Bool, true, false, not, List, [], ◌∷◌, ◌++◌, length, drop, max, Option, Some, None, Result, Ok, Err, if◌then◌else◌}
+use Rattle.std.proofs.Common.{◌≡◌, ℕ, suc, ◌+◌, ◌≤◌, refl, sym, ap, ◌∙◌, subst, arith, Bool, true, false, not, List, [], ◌∷◌, length, drop, Result, Ok, Err, if◌then◌else◌}
 use Rattle.std.specs.Prelude.{ℤ, nat_eq}
 use Rattle.base16.specs.Board.{segment_start}
 use Rattle.base16.specs.Integer.{wrapped}
@@ -22,7 +22,7 @@ use Rattle.run430.proofs.Operands.{to_register, given, constant as generated}
 use Rattle.ideal430.specs.Ideal.{Ideal, Meter}
 use Rattle.ideal430.specs.Settled.{Bytes}
 use Rattle.c_run.specs.Actions.{kept}
-use Rattle.c_run.specs.Runs.{Run, Outcome, Went}
+use Rattle.c_run.specs.Runs.{Went}
 use Rattle.c_values.specs.Operators.{number, int_eq}
 use Rattle.c_values.specs.Values.{numbered, integer}
 use Rattle.c_values.specs.declared.state.State.{State}
@@ -34,13 +34,11 @@ use Rattle.cells430.proofs.Lift.{sets, leads_now}
 use Rattle.ir.specs.declared.control.Temporary.{Temporary}
 use Rattle.ir.specs.declared.control.Temporary.TheVariants as temporary
 use Rattle.ir.specs.declared.control.Frame.{Frame}
-use Rattle.ir.specs.declared.control.Control.{Control}
 use Rattle.ir.specs.declared.control.Control.TheVariants.{At}
 use Rattle.ir.specs.declared.form.StepKind.TheVariants as step
 use Rattle.ir.specs.Machine.{act}
 use Rattle.matching.specs.Matches.{Placed, placed}
 use Rattle.select430.specs.Frames.{temporary_at}
-use Rattle.select430.specs.declared.part.Part.{Part}
 use Rattle.select430.specs.declared.part.Part.TheVariants.{Do, GoUnless}
 use Rattle.select430.specs.Code.{constant}
 use Rattle.steps430.specs.Setting.{Setting, function_of, step_at, IsLaid}

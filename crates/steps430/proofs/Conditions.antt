@@ -1,66 +1,30 @@
 -- Conditions: a comparison sets the flags, and a register becomes 1 where a condition holds, else 0.
-use Rattle.std.proofs.Common.{◌≡◌, ℕ, zero, suc, ◌+◌, ◌-◌, ◌*◌, ◌%◌, ◌<◌, ◌≤◌, refl, sym, ap, ◌∙◌, subst, arith, Bool, true, false, not, List, [], ◌∷◌, ◌++◌, length, drop, max, Option, Some, None, Result, Ok, Err, if◌then◌else◌}
-use Rattle.std.proofs.lemmas.Int.{ints}
-use Rattle.std.proofs.lemmas.Bool.Decides.{nat_tests}
-use Rattle.std.proofs.lemmas.List.{append_assoc}
-use Rattle.std.specs.Prelude.{ℤ, pos, negsuc, nat_eq, nat_lt, nat_le, int_lt, int_le, ◌&&◌}
-use Rattle.base16.specs.Integer.{wrapped, signed}
-use Rattle.base16.specs.declared.integer.IntType.{IntType}
-use Rattle.base16.specs.declared.integer.IntType.TheVariants as int
-use Rattle.base16.specs.declared.operator.BinaryOp.{BinaryOp}
-use Rattle.base16.specs.declared.operator.BinaryOp.TheVariants as op
+use Rattle.std.proofs.Common.{◌≡◌, ℕ, suc, ◌+◌, refl, arith, Bool, true, false, List, ◌++◌, if◌then◌else◌}
+use Rattle.std.specs.Prelude.{pos}
 use Rattle.isa430.specs.declared.instr.TwoOp.TheVariants.{Mov, Cmp}
 use Rattle.isa430.specs.declared.instr.Cond.{Cond}
-use Rattle.isa430.specs.declared.instr.Cond.TheVariants.{Nz, Z, Nc, C, Ge, Less}
 use Rattle.isa430.specs.declared.instr.Gen.TheVariants.{Zero, One as ConstantOne}
 use Rattle.isa430.specs.declared.instr.Src.TheVariants.{Reg, Constant}
 use Rattle.isa430.specs.declared.instr.Dst.TheVariants.{Reg as ToReg}
 use Rattle.isa430.specs.declared.instr.Instr.TheVariants.{Two}
 use Rattle.core430.specs.declared.operand.Place.TheVariants.{InRegister, Given}
 use Rattle.core430.specs.Arithmetic.{difference_status}
-use Rattle.core430.specs.Status.{carry_of}
 use Rattle.core430.specs.Registers.{set_reg}
 use Rattle.core430.specs.Instructions.{is_taken, jump_target}
 use Rattle.run430.specs.Code.{Here}
-use Rattle.run430.proofs.FlagLemmas.{signed_less, compare_carry, compare_zero, compare_less, compare_greater_or_equal}
 use Rattle.run430.proofs.Operands.{in_register, to_register, constant as generated}
 use Rattle.ideal430.specs.Ideal.{Ideal, Meter}
 use Rattle.ideal430.specs.Settled.{Bytes}
-use Rattle.c_run.specs.Actions.{kept}
-use Rattle.c_run.specs.Runs.{Run}
-use Rattle.c_values.specs.Operators.{number, truth, int_eq, binary}
-use Rattle.c_values.specs.Values.{right_type}
 use Rattle.c_values.specs.declared.state.State.{State}
-use Rattle.c_values.specs.declared.value.Value.{Value}
 use Rattle.cells430.specs.Cells.{Cells}
-use Rattle.cells430.specs.Stretch.{Course, outside, at, Leads}
+use Rattle.cells430.specs.Stretch.{Course, at, Leads}
 use Rattle.cells430.proofs.Lift.{sets, jumps, leads_weaker}
-use Rattle.ir.specs.declared.control.Temporary.{Temporary}
-use Rattle.ir.specs.declared.control.Temporary.TheVariants as temporary
 use Rattle.ir.specs.declared.control.Frame.{Frame}
-use Rattle.ir.specs.declared.control.Control.TheVariants.{At}
-use Rattle.ir.specs.declared.form.IrFunction.{IrFunction}
-use Rattle.ir.specs.declared.form.Operand.{Operand}
-use Rattle.ir.specs.declared.form.Operation.TheVariants as operation
-use Rattle.ir.specs.declared.form.StepKind.TheVariants as step
-use Rattle.ir.specs.Machine.{computed}
-use Rattle.ir.specs.Table.{taken}
-use Rattle.matching.specs.Matches.{Placed, placed}
-use Rattle.select430.specs.Frames.{temporaries_at}
 use Rattle.select430.specs.declared.part.Part.{Part}
-use Rattle.select430.specs.declared.part.Part.TheVariants.{Do}
-use Rattle.select430.specs.Code.{bring, keep, operate, is_signed, truth_where}
-use Rattle.steps430.specs.Setting.{Setting, function_of, step_at, IsLaid}
-use Rattle.steps430.specs.Holds.{is_missing, HasCode, value_code}
-use Rattle.steps430.specs.Standing.{StandsAt, Stage}
-use Rattle.steps430.specs.Follows.{DoesStep}
-use Rattle.steps430.proofs.Moves.{From, from_do, level, with_regs}
-use Rattle.steps430.proofs.Outcomes.{Gives, depth_follows, asked_follows}
-use Rattle.steps430.proofs.Steps.{begins, falls, keeps_last}
-use Rattle.steps430.proofs.Plain.{room_of}
-use Rattle.steps430.proofs.Pairs.{operands_follow, brings_two}
-use Rattle.steps430.proofs.Words.{wrapped_small}
-use Rattle.steps430.proofs.Sums.{are_numbers, same_number}
+use Rattle.select430.specs.Code.{truth_where}
+use Rattle.steps430.specs.Setting.{Setting}
+use Rattle.steps430.specs.Standing.{Stage}
+use Rattle.steps430.proofs.Moves.{From, with_regs}
 
 -- ---- 1 where a condition holds
 

@@ -1,10 +1,10 @@
 -- What stays of the stack and of the temporaries when a cell is set.
-use Rattle.std.proofs.Common.{◌≡◌, ◌≢◌, ℕ, suc, ◌+◌, ◌*◌, ◌%◌, ◌<◌, ◌≤◌, refl, sym, ap, ◌∙◌, subst, arith, Bool, true, false, ◌⊎◌, inl, inr, List, [], ◌∷◌, length, Option, Some, None}
+use Rattle.std.proofs.Common.{◌≡◌, ◌≢◌, ℕ, ◌+◌, ◌*◌, ◌<◌, ◌≤◌, refl, ◌∙◌, arith, Bool, true, false, ◌⊎◌, inl, inr, List, [], ◌∷◌, length, Option, Some}
 use Rattle.std.proofs.lemmas.Bool.{cases_eq}
 use Rattle.base16.specs.Board.{segment_start, segment_top}
 use Rattle.c_values.specs.declared.state.Call.{Call}
 use Rattle.cells430.specs.Cells.{Cell, Word, Cells, set_cell}
-use Rattle.cells430.proofs.Cells.{set_cell-same, set_cell-other, some_none}
+use Rattle.cells430.proofs.Cells.{set_cell-same, set_cell-other}
 use Rattle.ir.specs.declared.form.IrFunction.{IrFunction}
 use Rattle.ir.specs.declared.control.Temporary.{Temporary}
 use Rattle.ir.specs.declared.control.Frame.{Frame}
@@ -12,7 +12,7 @@ use Rattle.matching.specs.Matches.{Placed}
 use Rattle.select430.specs.Frames.{temporaries_at}
 use Rattle.steps430.specs.Setting.{Setting, function_of}
 use Rattle.steps430.specs.Holds.{IsWord, HasCode, is_defined, temporary_code, IsHeld, AreHeld, CallHolds, Holds}
-use Rattle.steps430.specs.Standing.{IsFrame, ReturnsHere, ReturnsBelow, Stacked, return_to}
+use Rattle.steps430.specs.Standing.{ReturnsHere, ReturnsBelow, Stacked, return_to}
 
 -- ---- temporaries
 

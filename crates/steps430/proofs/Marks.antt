@@ -1,14 +1,11 @@
 -- Marks: what follows a mark, whether or not it is the last of a run, and the steps that make a mark and nothing else.
-use Rattle.std.proofs.Common.{◌≡◌, ℕ, zero, suc, ◌+◌, ◌-◌, ◌*◌, ◌<◌, ◌≤◌, refl, sym, ap, ◌∙◌, subst, arith, Bool, true, false, List, [], ◌∷◌, ◌++◌, length, drop, Option, Some, None}
-use Rattle.std.specs.Prelude.{slice_get}
+use Rattle.std.proofs.Common.{◌≡◌, ℕ, zero, suc, ◌+◌, ◌-◌, refl, sym, subst, arith, false, List, [], ◌∷◌, length, drop, Option, Some, None}
 use Rattle.base16.specs.declared.reading.Reading.{Reading}
 use Rattle.isa430.specs.declared.instr.OneOp.TheVariants.{Call}
 use Rattle.isa430.specs.declared.instr.Src.TheVariants.{Immediate}
 use Rattle.isa430.specs.declared.instr.Instr.TheVariants.{One}
-use Rattle.core430.specs.Registers.{set_reg}
 use Rattle.core430.specs.Uses.{AreWords}
 use Rattle.ideal430.specs.Ideal.{Ideal, Meter}
-use Rattle.ideal430.specs.Service.{Block}
 use Rattle.ideal430.specs.Settled.{Bytes}
 use Rattle.ideal430.specs.declared.state.IdealEnd.TheVariants.{Running}
 use Rattle.c_run.specs.Actions.{kept}
@@ -17,12 +14,11 @@ use Rattle.c_values.specs.declared.state.Saved.{Saved}
 use Rattle.c_values.specs.declared.state.State.{State}
 use Rattle.c_values.specs.declared.value.Value.TheVariants.{Undefined as Missing}
 use Rattle.cells430.specs.Cells.{Cell, Word, Byte, Cells, Fits, Shape, Facts}
-use Rattle.cells430.specs.Stretch.{Course, outside, at, StepsTo, Leads, Comes, behind}
+use Rattle.cells430.specs.Stretch.{outside, at, Leads, Comes, behind}
 use Rattle.cells430.proofs.Cells.{some_none, facts_fewer}
 use Rattle.cells430.proofs.Lift.{leads_step, leads_now, leads_then}
 use Rattle.cells430.proofs.Services.{turns, checkpoints}
 use Rattle.core_tree.specs.declared.program.Core.{Core}
-use Rattle.ir.specs.declared.control.Temporary.{Temporary}
 use Rattle.ir.specs.declared.control.Temporary.TheVariants as temporary
 use Rattle.ir.specs.declared.control.Frame.{Frame}
 use Rattle.ir.specs.declared.control.Control.{Control}
@@ -31,16 +27,15 @@ use Rattle.ir.specs.declared.form.IrFunction.{IrFunction}
 use Rattle.ir.specs.declared.form.StepKind.TheVariants as step
 use Rattle.ir.specs.Machine.{act}
 use Rattle.matching.specs.Covering.{IsCovered}
-use Rattle.matching.specs.Matches.{BlockMatches, placed}
+use Rattle.matching.specs.Matches.{BlockMatches}
 use Rattle.matching.specs.Said.{OpeningCounts}
 use Rattle.matching.specs.Simulates.{MachineMatches}
 use Rattle.matching.proofs.CellsMatch.{cells_match}
 use Rattle.select430.specs.Frames.{temporaries_at}
 use Rattle.steps430.specs.Setting.{Setting, function_of, step_at, IsLaid}
-use Rattle.steps430.specs.Holds.{CallHolds}
 use Rattle.steps430.specs.Standing.{StandsAt, Stage}
 use Rattle.steps430.specs.Follows.{MakesMark, HasEnded, LacksReading, Follows, DoesStep}
-use Rattle.steps430.proofs.Moves.{From, from_do, level, with_regs, with_level}
+use Rattle.steps430.proofs.Moves.{from_do, level, with_level}
 use Rattle.steps430.proofs.Outcomes.{depth_follows}
 use Rattle.steps430.proofs.Steps.{begins, falls, stands_now}
 use Rattle.steps430.proofs.Plain.{room_of}

@@ -1,7 +1,7 @@
 -- The two moves of temporaries: the word of a depth comes into a register, and a register becomes the word of a depth.
-use Rattle.std.proofs.Common.{◌≡◌, ◌≢◌, ℕ, suc, ◌+◌, ◌*◌, ◌%◌, ◌<◌, ◌≤◌, refl, sym, ap, ◌∙◌, subst, arith, Bool, true, false, ◌⊎◌, inl, inr, List, [], ◌∷◌, length, reverse, Option, Some, None}
+use Rattle.std.proofs.Common.{◌≡◌, ◌≢◌, ℕ, suc, ◌+◌, ◌*◌, ◌%◌, ◌<◌, ◌≤◌, refl, sym, ap, ◌∙◌, subst, arith, false, ◌⊎◌, inl, inr, List, [], ◌∷◌, length, reverse, Some, None}
 use Rattle.std.proofs.lemmas.Bool.{ne_eqb}
-use Rattle.base16.specs.Board.{outputs_start, outputs_end, segment_start, segment_top}
+use Rattle.base16.specs.Board.{segment_start, segment_top}
 use Rattle.isa430.specs.declared.instr.TwoOp.TheVariants.{Mov}
 use Rattle.isa430.specs.declared.instr.Src.TheVariants.{Reg, Indexed}
 use Rattle.isa430.specs.declared.instr.Dst.TheVariants.{Reg as ToReg, Indexed as ToIndexed}
@@ -20,10 +20,10 @@ use Rattle.ideal430.specs.Settled.{Bytes}
 use Rattle.c_run.specs.Actions.{kept}
 use Rattle.c_values.specs.declared.state.Call.{Call}
 use Rattle.c_values.specs.declared.state.State.{State}
-use Rattle.cells430.specs.Cells.{Cell, Word, Cells, set_cell, Facts}
+use Rattle.cells430.specs.Cells.{Word, Cells, set_cell, Facts}
 use Rattle.cells430.specs.Stretch.{Course, at, Leads}
 use Rattle.cells430.proofs.Cells.{set_cell-other, some_none, shape_set}
-use Rattle.cells430.proofs.Lift.{two_given, sets, stores, loads}
+use Rattle.cells430.proofs.Lift.{two_given, stores, loads}
 use Rattle.ir.specs.declared.form.IrFunction.{IrFunction}
 use Rattle.ir.specs.declared.control.Temporary.{Temporary}
 use Rattle.ir.specs.declared.control.Frame.{Frame}
@@ -34,8 +34,8 @@ use Rattle.select430.specs.declared.part.Part.{Part}
 use Rattle.select430.specs.declared.part.Part.TheVariants.{Do}
 use Rattle.steps430.specs.Setting.{Setting, function_of, code_bytes}
 use Rattle.steps430.specs.Holds.{HasCode, is_defined, temporary_code, CallHolds, Holds}
-use Rattle.steps430.specs.Standing.{IsFrame, ReturnsHere, ReturnsBelow, Stacked, return_to, Stage}
-use Rattle.steps430.proofs.Keeping.{Off, Lower, Higher, here_off, below_off, stack_off, holds_off, call_push, held_set}
+use Rattle.steps430.specs.Standing.{ReturnsHere, ReturnsBelow, Stacked, return_to, Stage}
+use Rattle.steps430.proofs.Keeping.{Lower, Higher, here_off, below_off, stack_off, holds_off, call_push, held_set}
 
 -- ---- code
 

@@ -1,29 +1,27 @@
 -- A number is added to a register, and what follows of it: members of places, addresses, and values converted.
-use Rattle.std.proofs.Common.{◌≡◌, ℕ, zero, suc, ◌+◌, ◌-◌, ◌*◌, ◌%◌, ◌<◌, ◌≤◌, refl, sym, ap, ◌∙◌, subst, arith, Bool, true, false, not, List, [], ◌∷◌, ◌++◌, length, drop, reverse, max, min, Option, Some, None, Result, Ok, Err, if◌then◌else◌}
+use Rattle.std.proofs.Common.{◌≡◌, ℕ, suc, ◌+◌, ◌%◌, ◌<◌, refl, sym, ◌∙◌, subst, arith, Bool, true, false, List, ◌∷◌, drop, reverse, Option, Some, None, Result, Ok, Err, if◌then◌else◌}
 use Rattle.std.proofs.lemmas.Bool.{lt-ltb}
 use Rattle.std.proofs.lemmas.Bool.Decides.{nat_tests}
-use Rattle.std.specs.Prelude.{ℤ, pos, nat_lt, slice_get}
+use Rattle.std.specs.Prelude.{pos, nat_lt, slice_get}
 use Rattle.base16.specs.Integer.{wrapped}
 use Rattle.base16.specs.declared.integer.IntType.{IntType}
 use Rattle.base16.specs.declared.integer.IntType.TheVariants as int
 use Rattle.isa430.specs.declared.instr.TwoOp.{TwoOp}
 use Rattle.isa430.specs.declared.instr.TwoOp.TheVariants.{Mov, Add, Xor}
-use Rattle.isa430.specs.declared.instr.Gen.{Gen}
 use Rattle.isa430.specs.declared.instr.Src.{Src}
-use Rattle.isa430.specs.declared.instr.Src.TheVariants.{Reg, Indexed, Immediate, Constant}
+use Rattle.isa430.specs.declared.instr.Src.TheVariants.{Reg, Immediate, Constant}
 use Rattle.isa430.specs.declared.instr.Dst.TheVariants.{Reg as ToReg}
 use Rattle.isa430.specs.declared.instr.Instr.TheVariants.{Two}
 use Rattle.isa430.specs.Table.{size_of}
 use Rattle.core430.specs.declared.operand.Place.TheVariants.{InRegister, Given}
 use Rattle.core430.specs.Operands.{constant_of}
 use Rattle.core430.specs.Registers.{set_reg}
-use Rattle.core430.specs.Instructions.{two_result, two_status, flagged}
+use Rattle.core430.specs.Instructions.{two_status, flagged}
 use Rattle.run430.specs.Code.{Here}
 use Rattle.run430.proofs.Operands.{in_register, to_register, given, constant as generated}
 use Rattle.ideal430.specs.Ideal.{Ideal, Meter}
 use Rattle.ideal430.specs.Settled.{Bytes}
 use Rattle.c_run.specs.Actions.{kept}
-use Rattle.c_run.specs.Runs.{Run}
 use Rattle.c_values.specs.Operators.{as_type}
 use Rattle.c_values.specs.Pointers.{at as place_at, capped, member_at}
 use Rattle.c_values.specs.Values.{converted}
@@ -46,8 +44,7 @@ use Rattle.ir.specs.declared.form.StepKind.TheVariants as step
 use Rattle.ir.specs.Machine.{known}
 use Rattle.ir.specs.Table.{taken}
 use Rattle.matching.specs.Matches.{Placed, address_of, pointer_code, placed}
-use Rattle.select430.specs.Frames.{word, temporaries_at, temporary_at, local_at, global_at, offset_or, address_or}
-use Rattle.select430.specs.declared.part.Part.{Part}
+use Rattle.select430.specs.Frames.{word, temporaries_at, local_at, global_at, offset_or, address_or}
 use Rattle.select430.specs.declared.part.Part.TheVariants.{Do}
 use Rattle.select430.specs.Code.{constant, keep}
 use Rattle.steps430.specs.Setting.{Setting, function_of, step_at, IsLaid}

@@ -1,7 +1,7 @@
 -- An operand comes into a register, whatever it is.
-use Rattle.std.proofs.Common.{◌≡◌, ◌≢◌, ℕ, suc, ◌+◌, ◌*◌, ◌%◌, ◌<◌, ◌≤◌, refl, sym, ap, ◌∙◌, subst, arith, Bool, true, false, not, List, [], ◌∷◌, ◌++◌, length, reverse, Option, Some, None}
+use Rattle.std.proofs.Common.{◌≡◌, ◌≢◌, ℕ, suc, ◌+◌, ◌*◌, ◌%◌, ◌<◌, ◌≤◌, refl, sym, ap, ◌∙◌, subst, arith, Bool, true, false, not, List, ◌∷◌, ◌++◌, length, reverse, Some}
 use Rattle.std.proofs.lemmas.Bool.{ne_eqb}
-use Rattle.std.specs.Prelude.{ℤ, pos, slice_get, Ok}
+use Rattle.std.specs.Prelude.{pos, Ok}
 use Rattle.base16.specs.Integer.{wrapped}
 use Rattle.base16.specs.declared.image.Kind.{Kind}
 use Rattle.isa430.specs.declared.instr.TwoOp.TheVariants.{Mov}
@@ -20,7 +20,6 @@ use Rattle.c_run.specs.Actions.{kept}
 use Rattle.c_values.specs.Objects.{accessed}
 use Rattle.c_values.specs.declared.state.State.{State}
 use Rattle.c_values.specs.declared.value.Value.{Value}
-use Rattle.c_values.specs.declared.value.Value.TheVariants.{Int, Null}
 use Rattle.cells430.specs.Cells.{Cell, Word, Cells, Shape}
 use Rattle.cells430.specs.Stretch.{Course, at, Leads}
 use Rattle.cells430.proofs.Cells.{live_below}
@@ -33,11 +32,10 @@ use Rattle.ir.specs.declared.form.Base.{Base}
 use Rattle.ir.specs.declared.form.Base.TheVariants as base
 use Rattle.ir.specs.declared.form.IrFunction.{IrFunction}
 use Rattle.ir.specs.declared.form.Operand.{Operand}
-use Rattle.ir.specs.declared.form.Operand.TheVariants as operand
 use Rattle.ir.specs.Machine.{known}
 use Rattle.matching.specs.Covering.{cell_by, cell_of}
 use Rattle.matching.specs.Matches.{Placed as Alive, placed, address_of}
-use Rattle.select430.specs.Frames.{temporaries_at, temporary_at, local_at, global_at, offset_or, address_or}
+use Rattle.select430.specs.Frames.{temporaries_at, temporary_at, local_at, global_at}
 use Rattle.select430.specs.declared.part.Part.{Part}
 use Rattle.select430.specs.declared.part.Part.TheVariants.{Do}
 use Rattle.select430.specs.Code.{constant, is_char, scalar, read, bring}
@@ -46,8 +44,8 @@ use Rattle.steps430.specs.Holds.{is_missing, is_defined, HasCode, value_code, te
 use Rattle.steps430.specs.Standing.{Stage}
 use Rattle.steps430.proofs.Moves.{From, from_do, level, top_of, brings_word}
 use Rattle.steps430.proofs.Outcomes.{Gives, OfTop, OfConstant, OfNull, OfScalar}
-use Rattle.steps430.proofs.Reading.{IsRead, reads, same_address, local_stands, global_stands}
-use Rattle.steps430.proofs.Values.{IsNumber, number_is, brings_number, brings_cell, narrow_kind}
+use Rattle.steps430.proofs.Reading.{reads, same_address, local_stands, global_stands}
+use Rattle.steps430.proofs.Values.{number_is, brings_number, brings_cell, narrow_kind}
 
 -- ---- where a scalar is read
 

@@ -1,9 +1,9 @@
 -- Comparisons of two numbers.
-use Rattle.std.proofs.Common.{◌≡◌, ℕ, zero, suc, ◌+◌, ◌-◌, ◌*◌, ◌%◌, ◌<◌, ◌≤◌, refl, sym, ap, ◌∙◌, subst, arith, Bool, true, false, not, List, [], ◌∷◌, ◌++◌, length, drop, max, Option, Some, None, Result, Ok, Err, if◌then◌else◌}
+use Rattle.std.proofs.Common.{◌≡◌, ℕ, ◌+◌, ◌-◌, ◌<◌, refl, sym, ap, ◌∙◌, subst, arith, Bool, true, false, not, List, ◌∷◌, ◌++◌, drop, Ok, if◌then◌else◌}
 use Rattle.std.proofs.lemmas.Int.{ints}
 use Rattle.std.proofs.lemmas.Bool.Decides.{nat_tests}
 use Rattle.std.proofs.lemmas.List.{append_assoc}
-use Rattle.std.specs.Prelude.{ℤ, pos, negsuc, nat_eq, nat_lt, nat_le, int_lt, int_le, ◌&&◌}
+use Rattle.std.specs.Prelude.{ℤ, pos, negsuc, nat_eq, nat_lt, nat_le, int_lt, int_le}
 use Rattle.base16.specs.Integer.{wrapped, signed}
 use Rattle.base16.specs.declared.integer.IntType.{IntType}
 use Rattle.base16.specs.declared.integer.IntType.TheVariants as int
@@ -19,14 +19,11 @@ use Rattle.core430.specs.Arithmetic.{difference_status}
 use Rattle.core430.specs.Registers.{set_reg}
 use Rattle.core430.specs.Instructions.{is_taken}
 use Rattle.run430.proofs.FlagLemmas.{signed_less, compare_carry, compare_zero, compare_less, compare_greater_or_equal}
-use Rattle.ideal430.specs.Ideal.{Ideal, Meter}
-use Rattle.ideal430.specs.Settled.{Bytes}
 use Rattle.c_run.specs.Actions.{kept}
-use Rattle.c_run.specs.Runs.{Run}
 use Rattle.c_values.specs.Operators.{number, truth, int_eq, binary}
 use Rattle.c_values.specs.Values.{right_type}
 use Rattle.c_values.specs.declared.value.Value.{Value}
-use Rattle.cells430.specs.Stretch.{Course, outside, at, Leads}
+use Rattle.cells430.specs.Stretch.{Course, outside}
 use Rattle.ir.specs.declared.control.Temporary.TheVariants as temporary
 use Rattle.ir.specs.declared.control.Control.TheVariants.{At}
 use Rattle.ir.specs.declared.form.IrFunction.{IrFunction}
@@ -39,10 +36,10 @@ use Rattle.matching.specs.Matches.{Placed, placed}
 use Rattle.select430.specs.Frames.{temporaries_at}
 use Rattle.select430.specs.declared.part.Part.{Part}
 use Rattle.select430.specs.declared.part.Part.TheVariants.{Do}
-use Rattle.select430.specs.Code.{bring, keep, operate, is_signed, truth_where, holds_where}
+use Rattle.select430.specs.Code.{bring, keep, operate, is_signed, truth_where}
 use Rattle.steps430.specs.Setting.{Setting, function_of, step_at, IsLaid}
 use Rattle.steps430.specs.Holds.{is_missing, HasCode, value_code}
-use Rattle.steps430.specs.Standing.{StandsAt, Stage}
+use Rattle.steps430.specs.Standing.{StandsAt}
 use Rattle.steps430.specs.Follows.{DoesStep}
 use Rattle.steps430.proofs.Moves.{From, from_do, level}
 use Rattle.steps430.proofs.Outcomes.{depth_follows, asked_follows}

@@ -1,5 +1,5 @@
 -- Two operands come into R12 and R13.
-use Rattle.std.proofs.Common.{◌≡◌, ◌≢◌, ℕ, suc, ◌+◌, ◌*◌, ◌<◌, ◌≤◌, refl, sym, ap, ◌∙◌, subst, arith, Bool, true, false, List, [], ◌∷◌, ◌++◌, length, drop, Option, Some}
+use Rattle.std.proofs.Common.{◌≡◌, ◌≢◌, ℕ, suc, ◌+◌, ◌≤◌, sym, subst, arith, false, List, [], ◌∷◌, ◌++◌, length}
 use Rattle.std.proofs.lemmas.Bool.{ne_eqb}
 use Rattle.core430.specs.Registers.{set_reg}
 use Rattle.ideal430.specs.Ideal.{Ideal, Meter}
@@ -13,12 +13,10 @@ use Rattle.cells430.specs.Stretch.{Course, at, Leads}
 use Rattle.core_tree.specs.LawfulCore.{Every}
 use Rattle.ir.specs.declared.control.Control.{Control}
 use Rattle.ir.specs.declared.control.Temporary.{Temporary}
-use Rattle.ir.specs.declared.control.Temporary.TheVariants as temporary
 use Rattle.ir.specs.declared.control.Frame.{Frame}
 use Rattle.ir.specs.declared.form.Base.{Base}
 use Rattle.ir.specs.declared.form.IrFunction.{IrFunction}
 use Rattle.ir.specs.declared.form.Operand.{Operand}
-use Rattle.ir.specs.declared.form.Operand.TheVariants as operand
 use Rattle.ir.specs.Machine.{on_operands}
 use Rattle.ir.specs.Table.{taken}
 use Rattle.matching.specs.Matches.{placed}

@@ -1,15 +1,13 @@
 -- A value that becomes a temporary as it is, as another value or as a place.
-use Rattle.std.proofs.Common.{◌≡◌, ℕ, suc, ◌+◌, ◌*◌, ◌%◌, ◌<◌, ◌≤◌, refl, sym, ap, ◌∙◌, subst, arith, Bool, true, false, not, List, [], ◌∷◌, ◌++◌, length, drop, Option, Some, None, Result, Ok, Err, if◌then◌else◌}
-use Rattle.std.specs.Prelude.{ℤ, pos, negsuc, nat_lt}
+use Rattle.std.proofs.Common.{◌≡◌, ℕ, ◌+◌, ◌*◌, ◌≤◌, refl, ap, subst, arith, Bool, true, false, not, List, ◌∷◌, ◌++◌, length, drop, Option, Some, None, Result, Ok, Err, if◌then◌else◌}
+use Rattle.std.specs.Prelude.{nat_lt}
 use Rattle.base16.specs.Board.{segment_start}
-use Rattle.base16.specs.Integer.{wrapped}
 use Rattle.core430.specs.Registers.{set_reg}
-use Rattle.ideal430.specs.Ideal.{Ideal, Meter}
+use Rattle.ideal430.specs.Ideal.{Meter}
 use Rattle.ideal430.specs.Settled.{Bytes}
 use Rattle.c_run.specs.Actions.{kept}
 use Rattle.c_run.specs.Runs.{Run}
 use Rattle.c_values.specs.Pointers.{at as place_at, pointed, through_null}
-use Rattle.c_values.specs.declared.state.State.{State}
 use Rattle.c_values.specs.declared.value.Location.{Location}
 use Rattle.c_values.specs.declared.value.Value.{Value}
 use Rattle.c_values.specs.declared.value.Value.TheVariants.{Int, Pointer, Null, Undefined}
@@ -32,9 +30,9 @@ use Rattle.select430.specs.Code.{bring, keep, put}
 use Rattle.steps430.specs.Setting.{Setting, function_of, step_at, IsNamed, operand_bases, IsLaid}
 use Rattle.steps430.specs.Holds.{is_missing, is_defined, HasCode, value_code, place_code, temporary_code, IsHeld, CallHolds}
 use Rattle.steps430.specs.Standing.{StandsAt, Stage}
-use Rattle.steps430.specs.Follows.{Follows, DoesStep}
+use Rattle.steps430.specs.Follows.{DoesStep}
 use Rattle.steps430.proofs.Moves.{From, level, with_level}
-use Rattle.steps430.proofs.Outcomes.{Gives, OfTop, OfConstant, OfNull, OfScalar, operand_follows, depth_follows, given_follows}
+use Rattle.steps430.proofs.Outcomes.{Gives, OfTop, operand_follows, depth_follows, given_follows}
 use Rattle.steps430.proofs.Operands.{brings_value}
 use Rattle.steps430.proofs.Steps.{begins, falls, stands_now, keeps_last, left_by}
 use Rattle.steps430.proofs.Plain.{room_of}

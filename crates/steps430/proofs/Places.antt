@@ -1,9 +1,8 @@
 -- Steps on places: a pointer is made of a place, and a scalar is read at a place.
-use Rattle.std.proofs.Common.{◌≡◌, ◌≢◌, ℕ, suc, ◌+◌, ◌*◌, ◌%◌, ◌<◌, ◌≤◌, refl, sym, ap, ◌∙◌, subst, arith, Bool, true, false, not, List, [], ◌∷◌, ◌++◌, length, drop, reverse, min, Option, Some, None, Result, Ok, Err, if◌then◌else◌}
+use Rattle.std.proofs.Common.{◌≡◌, ℕ, suc, ◌+◌, ◌*◌, ◌%◌, ◌<◌, ◌≤◌, refl, ap, ◌∙◌, subst, arith, Bool, true, false, not, List, ◌∷◌, length, drop, Option, Some, None, Result, Ok, Err, if◌then◌else◌}
 use Rattle.std.proofs.lemmas.Bool.{lt-ltb, eqb-true}
 use Rattle.std.proofs.lemmas.Bool.Decides.{nat_tests}
-use Rattle.std.specs.Prelude.{ℤ, pos, nat_eq, nat_lt, nat_le, is_none}
-use Rattle.base16.specs.Board.{segment_start}
+use Rattle.std.specs.Prelude.{nat_eq, nat_lt, nat_le}
 use Rattle.base16.specs.declared.image.Kind.{Kind}
 use Rattle.isa430.specs.declared.instr.TwoOp.TheVariants.{Mov}
 use Rattle.isa430.specs.declared.instr.Src.TheVariants.{Indexed, Indirect}
@@ -18,7 +17,6 @@ use Rattle.run430.proofs.Operands.{from_pointer, byte_from_pointer}
 use Rattle.ideal430.specs.Ideal.{Ideal, Meter}
 use Rattle.ideal430.specs.Settled.{Bytes}
 use Rattle.c_run.specs.Actions.{kept}
-use Rattle.c_run.specs.Runs.{Run}
 use Rattle.c_values.specs.Objects.{accessed, object_of}
 use Rattle.c_values.specs.Pointers.{end_of, pointer_within, address_in, address_from, address}
 use Rattle.c_values.specs.declared.state.Object.{Object}
@@ -43,12 +41,12 @@ use Rattle.select430.specs.declared.part.Part.{Part}
 use Rattle.select430.specs.declared.part.Part.TheVariants.{Do}
 use Rattle.select430.specs.Code.{is_char, keep}
 use Rattle.steps430.specs.Setting.{Setting, function_of, step_at, IsLaid}
-use Rattle.steps430.specs.Holds.{is_missing, HasCode, object_address, place_code, value_code, temporary_code, CallHolds}
+use Rattle.steps430.specs.Holds.{is_missing, HasCode, object_address, place_code, value_code, CallHolds}
 use Rattle.steps430.specs.Standing.{StandsAt, Stage}
 use Rattle.steps430.specs.Follows.{DoesStep}
 use Rattle.steps430.proofs.Moves.{From, from_do, level, with_level, without_top}
 use Rattle.steps430.proofs.Outcomes.{place_follows, depth_follows, asked_follows, load_follows}
-use Rattle.steps430.proofs.Reading.{IsRead, reads}
+use Rattle.steps430.proofs.Reading.{reads}
 use Rattle.steps430.proofs.Values.{brings_cell, narrow_kind}
 use Rattle.steps430.proofs.Operands.{brings_top}
 use Rattle.steps430.proofs.Steps.{begins, falls, stands_now, keeps_last}

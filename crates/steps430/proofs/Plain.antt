@@ -1,26 +1,20 @@
 -- Steps without a mark that put, take away or pass on: values as they are, and jumps.
-use Rattle.std.proofs.Common.{◌≡◌, ℕ, suc, ◌+◌, ◌*◌, ◌<◌, ◌≤◌, refl, sym, ap, ◌∙◌, subst, arith, Bool, true, false, List, [], ◌∷◌, ◌++◌, length, drop, max, Option, Some, None}
-use Rattle.std.specs.Prelude.{ℤ}
+use Rattle.std.proofs.Common.{◌≡◌, ℕ, ◌+◌, ◌*◌, ◌≤◌, refl, subst, arith, false, List, ◌∷◌, ◌++◌, length, drop, max}
 use Rattle.isa430.specs.declared.instr.TwoOp.TheVariants.{Mov}
 use Rattle.isa430.specs.declared.instr.Src.TheVariants.{Immediate}
 use Rattle.isa430.specs.declared.instr.Dst.TheVariants.{Reg as ToReg}
 use Rattle.core430.specs.declared.operand.Place.TheVariants.{InRegister, Given}
 use Rattle.core430.specs.Registers.{set_reg}
 use Rattle.run430.proofs.Operands.{given, to_register}
-use Rattle.ideal430.specs.Ideal.{Ideal}
 use Rattle.ideal430.specs.Settled.{Bytes}
-use Rattle.c_run.specs.Actions.{kept}
-use Rattle.c_run.specs.Runs.{Run, Outcome}
 use Rattle.c_values.specs.declared.state.State.{State}
 use Rattle.c_values.specs.declared.value.Value.{Value}
-use Rattle.c_values.specs.declared.value.Value.TheVariants.{Int, Null, Undefined}
+use Rattle.c_values.specs.declared.value.Value.TheVariants.{Undefined}
 use Rattle.cells430.specs.Cells.{Cells}
-use Rattle.cells430.specs.Stretch.{outside, at, Leads}
+use Rattle.cells430.specs.Stretch.{outside}
 use Rattle.cells430.proofs.Lift.{goes}
 use Rattle.ir.specs.declared.control.Temporary.{Temporary}
 use Rattle.ir.specs.declared.control.Temporary.TheVariants as temporary
-use Rattle.ir.specs.declared.control.Frame.{Frame}
-use Rattle.ir.specs.declared.control.Control.{Control}
 use Rattle.ir.specs.declared.control.Control.TheVariants.{At}
 use Rattle.ir.specs.declared.form.IrFunction.{IrFunction}
 use Rattle.ir.specs.declared.form.Operand.{Operand}
@@ -28,19 +22,17 @@ use Rattle.ir.specs.declared.form.Operand.TheVariants as operand
 use Rattle.ir.specs.declared.form.StepKind.TheVariants as step
 use Rattle.ir.specs.Machine.{act}
 use Rattle.ir.specs.Table.{taken}
-use Rattle.matching.specs.Matches.{placed}
 use Rattle.select430.specs.Frames.{temporaries_at}
 use Rattle.select430.specs.declared.part.Part.{Part}
-use Rattle.select430.specs.declared.part.Part.TheVariants.{Go}
 use Rattle.select430.specs.Code.{bring, keep, put}
 use Rattle.steps430.specs.Setting.{Setting, function_of, step_at, IsLaid}
-use Rattle.steps430.specs.Holds.{is_missing, CallHolds}
+use Rattle.steps430.specs.Holds.{is_missing}
 use Rattle.steps430.specs.Standing.{StandsAt, Stage}
-use Rattle.steps430.specs.Follows.{Follows, DoesStep}
+use Rattle.steps430.specs.Follows.{DoesStep}
 use Rattle.steps430.proofs.Moves.{From, level, with_regs, with_level, without_top}
 use Rattle.steps430.proofs.Outcomes.{Gives, OfTop, OfConstant, OfNull, OfScalar, operand_follows, depth_follows, any_follows}
 use Rattle.steps430.proofs.Operands.{brings_value}
-use Rattle.steps430.proofs.Steps.{begins, falls, stands_next, stands_now, keeps_last, left_by}
+use Rattle.steps430.proofs.Steps.{begins, falls, stands_now, keeps_last, left_by}
 
 -- ---- room for what a step gives
 

@@ -1,19 +1,18 @@
 -- The cell of a scalar that is read, and where it is.
-use Rattle.std.proofs.Common.{◌≡◌, ◌≢◌, ℕ, zero, suc, ◌+◌, ◌*◌, ◌%◌, ◌<◌, ◌≤◌, refl, sym, ap, ◌∙◌, subst, arith, Bool, true, false, List, [], ◌∷◌, length, reverse, Option, Some, None}
+use Rattle.std.proofs.Common.{◌≡◌, ℕ, ◌+◌, ◌<◌, refl, sym, ap, ◌∙◌, subst, arith, false, List, [], ◌∷◌, length, reverse, Option, Some, None}
 use Rattle.std.specs.Prelude.{ℤ, Ok, slice_get}
 use Rattle.base16.specs.Integer.{wrapped}
 use Rattle.base16.specs.declared.image.Kind.{Kind}
 use Rattle.base16.specs.declared.image.Kind.TheVariants as kind
 use Rattle.c_run.specs.Actions.{kept}
 use Rattle.c_values.specs.Objects.{accessed}
-use Rattle.c_values.specs.Pointers.{at}
 use Rattle.c_values.specs.declared.state.Call.{Call}
 use Rattle.c_values.specs.declared.state.State.{State}
 use Rattle.c_values.specs.declared.value.Cell.{Cell as Scalar}
 use Rattle.c_values.specs.declared.value.Location.{Location}
 use Rattle.c_values.specs.declared.value.Value.{Value}
 use Rattle.c_values.specs.declared.value.Value.TheVariants.{Int, Pointer, Null, Undefined}
-use Rattle.cells430.specs.Cells.{Cell, Word, Byte, Cells}
+use Rattle.cells430.specs.Cells.{Cells}
 use Rattle.core_tree.specs.Data.{global_address}
 use Rattle.core_tree.specs.LawfulCore.{Every}
 use Rattle.core_tree.specs.declared.program.Core.{Core}
@@ -23,11 +22,11 @@ use Rattle.matching.specs.Covering.{cell_of, HasCell, ScalarsCovered, IsCovered,
 use Rattle.matching.specs.Laid.{IsMade}
 use Rattle.matching.specs.Matches.{Placed, local_address, offset_in, placed, address_of, number_code, pointer_code, encoded}
 use Rattle.select430.specs.Frames.{offset_or, address_or}
-use Rattle.steps430.specs.Setting.{Setting, function_of, NumberedFrom, IsLaid}
+use Rattle.steps430.specs.Setting.{Setting, function_of, IsLaid}
 use Rattle.steps430.specs.Holds.{is_missing, HasCode, value_code}
 use Rattle.steps430.specs.Standing.{IsWhole, AreWhole, IsFilled, AreFilled, Stacked}
 use Rattle.steps430.proofs.Moves.{level}
-use Rattle.steps430.proofs.Scalars.{IsFound, IsScalar, Accessed, accesses, nth_object, in_youngest, in_globals}
+use Rattle.steps430.proofs.Scalars.{accesses, nth_object, in_youngest, in_globals}
 
 -- ---- codes
 

@@ -1,5 +1,5 @@
 -- What a call gave is taken behind the call.
-use Rattle.std.proofs.Common.{◌≡◌, ℕ, suc, ◌+◌, ◌*◌, ◌<◌, ◌≤◌, refl, sym, ap, ◌∙◌, subst, arith, Bool, true, false, List, [], ◌∷◌, ◌++◌, length, drop, max, Option, Some, None, if◌then◌else◌}
+use Rattle.std.proofs.Common.{◌≡◌, ℕ, ◌+◌, ◌≤◌, refl, sym, ap, subst, arith, true, false, List, ◌∷◌, drop, Some}
 use Rattle.std.specs.Prelude.{slice_get}
 use Rattle.base16.specs.Board.{segment_start}
 use Rattle.run430.specs.Code.{Placed}
@@ -10,10 +10,9 @@ use Rattle.c_run.specs.Runs.{Run}
 use Rattle.c_values.specs.declared.value.Value.{Value}
 use Rattle.cells430.specs.Cells.{Cells}
 use Rattle.cells430.specs.Stretch.{outside, at}
-use Rattle.ir.specs.declared.control.Temporary.{Temporary}
 use Rattle.ir.specs.declared.control.Temporary.TheVariants as temporary
 use Rattle.ir.specs.declared.control.Frame.{Frame}
-use Rattle.ir.specs.declared.control.Control.TheVariants.{At, Returning}
+use Rattle.ir.specs.declared.control.Control.TheVariants.{Returning}
 use Rattle.ir.specs.declared.form.IrFunction.{IrFunction}
 use Rattle.ir.specs.declared.form.StepKind.{StepKind}
 use Rattle.ir.specs.declared.form.StepKind.TheVariants as step
@@ -25,7 +24,7 @@ use Rattle.steps430.specs.Setting.{Setting, function_of, step_at, step_code, cod
 use Rattle.steps430.specs.Holds.{HasCode, value_code}
 use Rattle.steps430.specs.Standing.{Stage, IsAt, Behind, StandsAt}
 use Rattle.steps430.specs.Follows.{Follows}
-use Rattle.steps430.proofs.Moves.{From, level, with_level}
+use Rattle.steps430.proofs.Moves.{From, with_level}
 use Rattle.steps430.proofs.Outcomes.{depth_follows}
 use Rattle.steps430.proofs.Steps.{falls, stands_now, keeps_last}
 use Rattle.steps430.proofs.Plain.{room_of}

@@ -1,7 +1,7 @@
 -- A reading of a sensor, given or lacking.
-use Rattle.std.proofs.Common.{◌≡◌, ℕ, zero, suc, ◌+◌, ◌-◌, ◌*◌, ◌%◌, ◌<◌, ◌≤◌, refl, sym, ap, ◌∙◌, subst, arith, Bool, true, false, List, [], ◌∷◌, ◌++◌, length, drop, max, Option, Some, None, if◌then◌else◌}
+use Rattle.std.proofs.Common.{◌≡◌, ℕ, zero, suc, ◌+◌, ◌*◌, ◌<◌, ◌≤◌, refl, sym, ap, ◌∙◌, arith, Bool, true, false, List, [], ◌∷◌, length, drop, Option, Some, None, if◌then◌else◌}
 use Rattle.std.proofs.lemmas.Bool.{eqb-true, eqb-false, ne_eqb}
-use Rattle.std.specs.Prelude.{ℤ, pos, nat_eq, slice_get}
+use Rattle.std.specs.Prelude.{pos, nat_eq, slice_get}
 use Rattle.base16.specs.Board.{segment_start}
 use Rattle.base16.specs.Integer.{wrapped}
 use Rattle.base16.specs.Readings.{AreReadingsFrom, IsReadings}
@@ -17,13 +17,12 @@ use Rattle.core430.specs.Registers.{set_reg}
 use Rattle.ideal430.specs.At.{sensed_value}
 use Rattle.ideal430.specs.Ideal.{Ideal, Meter}
 use Rattle.ideal430.specs.Settled.{Bytes}
-use Rattle.c_run.specs.Actions.{kept, taken, sensed, sense_reading, sense}
-use Rattle.c_run.specs.Runs.{Run, Outcome, Went, Stopped, NeedsReading as Lacks, Action, and_then, ◌>>=◌, counted, mark_by, mark, pure, stop}
-use Rattle.c_values.specs.declared.state.State.{State}
+use Rattle.c_run.specs.Actions.{taken, sensed, sense_reading, sense}
+use Rattle.c_run.specs.Runs.{Run, Outcome, Stopped, NeedsReading as Lacks, Action, and_then, ◌>>=◌, counted, mark_by, mark, pure, stop}
 use Rattle.c_values.specs.declared.value.Value.{Value}
 use Rattle.c_values.specs.declared.value.Value.TheVariants.{Int}
 use Rattle.cells430.specs.Cells.{Cells}
-use Rattle.cells430.specs.Stretch.{Course, outside, at, Leads, behind}
+use Rattle.cells430.specs.Stretch.{Course, outside, at, behind}
 use Rattle.cells430.proofs.Lift.{leads_step, leads_now}
 use Rattle.cells430.proofs.Services.{senses, sense_lacks}
 use Rattle.ir.specs.declared.control.Temporary.{Temporary}
@@ -34,14 +33,11 @@ use Rattle.ir.specs.declared.control.Control.TheVariants.{At}
 use Rattle.ir.specs.declared.form.IrFunction.{IrFunction}
 use Rattle.ir.specs.declared.form.StepKind.TheVariants as step
 use Rattle.ir.specs.Machine.{act, gave}
-use Rattle.matching.specs.Matches.{placed}
 use Rattle.select430.specs.Frames.{temporaries_at}
-use Rattle.select430.specs.declared.part.Part.{Part}
 use Rattle.select430.specs.declared.part.Part.TheVariants.{Do}
 use Rattle.select430.specs.Code.{constant, keep}
 use Rattle.steps430.specs.Setting.{Setting, function_of, step_at, IsLaid}
-use Rattle.steps430.specs.Holds.{HasCode, value_code}
-use Rattle.steps430.specs.Standing.{StandsAt, Stage}
+use Rattle.steps430.specs.Standing.{Stage}
 use Rattle.steps430.specs.Follows.{LacksReading, Follows, DoesStep}
 use Rattle.steps430.proofs.Moves.{From, from_do, level}
 use Rattle.steps430.proofs.Outcomes.{depth_follows}

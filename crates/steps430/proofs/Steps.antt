@@ -1,5 +1,5 @@
 -- How the proof of a step begins and ends.
-use Rattle.std.proofs.Common.{◌≡◌, ℕ, suc, ◌+◌, ◌*◌, ◌≤◌, refl, sym, ap, ◌∙◌, subst, arith, Bool, true, false, List, [], ◌∷◌, ◌++◌, length, drop, Option, Some}
+use Rattle.std.proofs.Common.{◌≡◌, ℕ, suc, ◌+◌, ◌*◌, ◌≤◌, refl, sym, ap, ◌∙◌, subst, arith, false, List, [], ◌∷◌, length, drop, Some}
 use Rattle.std.specs.Prelude.{slice_get}
 use Rattle.base16.specs.Board.{segment_start}
 use Rattle.isa430.specs.declared.instr.TwoOp.TheVariants.{Mov}
@@ -15,7 +15,7 @@ use Rattle.c_run.specs.Runs.{Run, Outcome}
 use Rattle.c_values.specs.declared.state.State.{State}
 use Rattle.c_values.specs.declared.value.Value.{Value}
 use Rattle.cells430.specs.Cells.{Cells}
-use Rattle.cells430.specs.Stretch.{Course, outside, at, Leads}
+use Rattle.cells430.specs.Stretch.{outside, at, Leads}
 use Rattle.cells430.proofs.Lift.{leads_now}
 use Rattle.ir.specs.declared.control.Temporary.{Temporary}
 use Rattle.ir.specs.declared.control.Temporary.TheVariants as temporary
@@ -23,9 +23,8 @@ use Rattle.ir.specs.declared.control.Frame.{Frame}
 use Rattle.ir.specs.declared.control.Control.{Control}
 use Rattle.ir.specs.declared.control.Control.TheVariants.{At}
 use Rattle.ir.specs.declared.form.Operand.{Operand}
-use Rattle.ir.specs.declared.form.Step.{Step}
 use Rattle.ir.specs.declared.form.StepKind.{StepKind}
-use Rattle.matching.specs.Matches.{Placed as Alive, placed}
+use Rattle.matching.specs.Matches.{placed}
 use Rattle.select430.specs.Frames.{temporaries_at, temporary_at}
 use Rattle.select430.specs.Code.{code_of_step, keep}
 use Rattle.steps430.specs.Setting.{Setting, function_of, step_at, step_code, code_bytes, Falls, StepStands, IsLaid}

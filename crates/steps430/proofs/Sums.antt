@@ -1,5 +1,5 @@
 -- Sums, differences and bits of two numbers.
-use Rattle.std.proofs.Common.{◌≡◌, ℕ, suc, ◌+◌, ◌-◌, ◌*◌, ◌%◌, ◌<◌, ◌≤◌, refl, sym, ap, ◌∙◌, subst, arith, Bool, true, false, List, [], ◌∷◌, ◌++◌, length, drop, max, Option, Some, None, Result, Ok, Err}
+use Rattle.std.proofs.Common.{◌≡◌, ℕ, suc, ◌+◌, ◌<◌, refl, sym, ap, ◌∙◌, subst, arith, false, List, [], ◌∷◌, ◌++◌, drop, Result, Ok, Err}
 use Rattle.std.proofs.lemmas.List.{append_assoc}
 use Rattle.std.specs.Prelude.{ℤ, pos, ◌+ℤ◌, ◌-ℤ◌, bit_and, bit_or, bit_xor}
 use Rattle.base16.specs.Integer.{wrapped}
@@ -19,8 +19,7 @@ use Rattle.run430.proofs.Operands.{in_register, to_register}
 use Rattle.ideal430.specs.Ideal.{Ideal, Meter}
 use Rattle.ideal430.specs.Settled.{Bytes}
 use Rattle.c_run.specs.Actions.{kept}
-use Rattle.c_run.specs.Runs.{Run}
-use Rattle.c_values.specs.Operators.{as_type, number, settled, joined, binary}
+use Rattle.c_values.specs.Operators.{as_type, number, binary}
 use Rattle.c_values.specs.Values.{int_value, right_type, operated}
 use Rattle.c_values.specs.declared.state.State.{State}
 use Rattle.c_values.specs.declared.value.Value.{Value}
@@ -28,7 +27,6 @@ use Rattle.c_values.specs.declared.value.Value.TheVariants.{Int, Pointer, Null, 
 use Rattle.cells430.specs.Cells.{Cells}
 use Rattle.cells430.specs.Stretch.{Course, outside, at, Leads}
 use Rattle.cells430.proofs.Lift.{sets}
-use Rattle.ir.specs.declared.control.Temporary.{Temporary}
 use Rattle.ir.specs.declared.control.Temporary.TheVariants as temporary
 use Rattle.ir.specs.declared.control.Frame.{Frame}
 use Rattle.ir.specs.declared.control.Control.TheVariants.{At}
@@ -48,11 +46,11 @@ use Rattle.steps430.specs.Holds.{is_missing, HasCode, value_code}
 use Rattle.steps430.specs.Standing.{StandsAt, Stage}
 use Rattle.steps430.specs.Follows.{DoesStep}
 use Rattle.steps430.proofs.Moves.{From, from_do, level, with_regs}
-use Rattle.steps430.proofs.Outcomes.{Gives, depth_follows, asked_follows}
+use Rattle.steps430.proofs.Outcomes.{depth_follows, asked_follows}
 use Rattle.steps430.proofs.Steps.{begins, falls, keeps_last}
 use Rattle.steps430.proofs.Plain.{room_of}
 use Rattle.steps430.proofs.Pairs.{operands_follow, brings_two}
-use Rattle.steps430.proofs.Words.{IsWide, wrapped_number, wrapped_type, wrapped_settled, wrapped_sum, wrapped_difference, wrapped_small}
+use Rattle.steps430.proofs.Words.{IsWide, wrapped_number, wrapped_type, wrapped_settled, wrapped_sum, wrapped_difference}
 
 -- ---- two numbers that are computed with
 

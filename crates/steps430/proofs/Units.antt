@@ -1,7 +1,5 @@
 -- The operator of one number that leaves it.
-use Rattle.std.proofs.Common.{◌≡◌, ℕ, suc, ◌+◌, ◌*◌, ◌<◌, ◌≤◌, refl, sym, ap, ◌∙◌, subst, arith, Bool, true, false, List, [], ◌∷◌, ◌++◌, length, drop, max, Option, Some, None, Result, Ok, Err}
-use Rattle.std.specs.Prelude.{ℤ}
-use Rattle.base16.specs.Integer.{wrapped}
+use Rattle.std.proofs.Common.{◌≡◌, ℕ, ◌+◌, refl, sym, ◌∙◌, subst, arith, false, List, Result, Ok, Err}
 use Rattle.base16.specs.declared.integer.IntType.{IntType}
 use Rattle.base16.specs.declared.operator.UnaryOp.TheVariants as un
 use Rattle.c_run.specs.Actions.{kept}

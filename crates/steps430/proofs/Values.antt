@@ -1,7 +1,7 @@
 -- Values come into registers: temporaries, constants, null and scalars.
-use Rattle.std.proofs.Common.{◌≡◌, ◌≢◌, ℕ, suc, ◌+◌, ◌-◌, ◌*◌, ◌%◌, ◌<◌, ◌≤◌, refl, sym, ap, ◌∙◌, subst, arith, Bool, true, false, not, List, [], ◌∷◌, ◌++◌, length, reverse, Option, Some, None, if◌then◌else◌}
+use Rattle.std.proofs.Common.{◌≡◌, ◌≢◌, ℕ, suc, ◌+◌, ◌≤◌, refl, sym, ap, ◌∙◌, subst, arith, Bool, true, false, not, List, Option, Some, if◌then◌else◌}
 use Rattle.std.proofs.lemmas.Bool.{ne_eqb, eqb-true}
-use Rattle.std.specs.Prelude.{ℤ, pos, negsuc, nat_eq, slice_get}
+use Rattle.std.specs.Prelude.{ℤ, pos, negsuc, nat_eq}
 use Rattle.base16.specs.Integer.{wrapped}
 use Rattle.base16.specs.declared.image.Kind.{Kind}
 use Rattle.base16.specs.declared.image.Kind.TheVariants as kind
@@ -9,48 +9,29 @@ use Rattle.isa430.specs.declared.instr.TwoOp.TheVariants.{Mov}
 use Rattle.isa430.specs.declared.instr.Gen.{Gen}
 use Rattle.isa430.specs.declared.instr.Gen.TheVariants.{Zero, One as ConstantOne, Two as ConstantTwo, Four, Eight, MinusOne}
 use Rattle.isa430.specs.declared.instr.Src.{Src}
-use Rattle.isa430.specs.declared.instr.Src.TheVariants.{Indexed, Absolute, Immediate, Constant}
+use Rattle.isa430.specs.declared.instr.Src.TheVariants.{Immediate, Constant}
 use Rattle.isa430.specs.declared.instr.Dst.TheVariants.{Reg as ToReg}
 use Rattle.isa430.specs.declared.instr.Instr.TheVariants.{Two}
 use Rattle.isa430.specs.Table.{size_of}
-use Rattle.core430.specs.declared.operand.Place.{Place}
 use Rattle.core430.specs.declared.operand.Place.TheVariants.{InRegister, InMemory, Given}
 use Rattle.core430.specs.Operands.{constant_of}
 use Rattle.core430.specs.Registers.{set_reg}
 use Rattle.core430.specs.Instructions.{Sets}
 use Rattle.run430.specs.Code.{Here}
 use Rattle.run430.proofs.Rules.{Source, next as next_regs, two_at}
-use Rattle.run430.proofs.Operands.{to_register, byte_to_register, from_at, byte_from_at, from_address, byte_from_address, given, constant as generated}
+use Rattle.run430.proofs.Operands.{to_register, byte_to_register, given, constant as generated}
 use Rattle.ideal430.specs.Ideal.{Ideal, Meter}
 use Rattle.ideal430.specs.Settled.{Bytes}
-use Rattle.c_run.specs.Actions.{kept}
 use Rattle.c_values.specs.declared.state.State.{State}
-use Rattle.c_values.specs.declared.value.Value.{Value}
-use Rattle.c_values.specs.declared.value.Value.TheVariants.{Int, Null}
-use Rattle.cells430.specs.Cells.{Cell, Word, Byte, Cells, Facts, Live}
+use Rattle.cells430.specs.Cells.{Cells}
 use Rattle.cells430.specs.Stretch.{Course, at, Leads}
-use Rattle.cells430.proofs.Cells.{live_below}
 use Rattle.cells430.proofs.Lift.{two_given, sets, loads, loads_byte}
-use Rattle.core_tree.specs.LawfulCore.{Every}
-use Rattle.ir.specs.declared.control.Temporary.{Temporary}
 use Rattle.ir.specs.declared.control.Frame.{Frame}
-use Rattle.ir.specs.declared.form.Base.{Base}
-use Rattle.ir.specs.declared.form.Base.TheVariants as base
-use Rattle.ir.specs.declared.form.IrFunction.{IrFunction}
-use Rattle.ir.specs.declared.form.Operand.{Operand}
-use Rattle.ir.specs.declared.form.Operand.TheVariants as operand
-use Rattle.ir.specs.Machine.{known}
 use Rattle.matching.specs.Covering.{cell_by, cell_of}
-use Rattle.matching.specs.Matches.{Placed as Alive, placed}
-use Rattle.select430.specs.Frames.{temporaries_at, temporary_at, local_at, global_at, offset_or, address_or}
-use Rattle.select430.specs.declared.part.Part.{Part}
-use Rattle.select430.specs.Code.{constant, is_char, bring}
-use Rattle.steps430.specs.Setting.{Setting, function_of, IsNamed, operand_bases, IsLaid}
-use Rattle.steps430.specs.Holds.{is_missing, is_defined, HasCode, value_code, temporary_code, IsHeld}
+use Rattle.select430.specs.Code.{constant, is_char}
+use Rattle.steps430.specs.Setting.{Setting}
 use Rattle.steps430.specs.Standing.{Stage}
-use Rattle.steps430.proofs.Moves.{From, from_do, level, top_of, with_regs, brings_word}
-use Rattle.steps430.proofs.Outcomes.{Gives, OfTop, OfConstant, OfNull, OfScalar}
-use Rattle.steps430.proofs.Reading.{IsRead, reads, local_stands, global_stands}
+use Rattle.steps430.proofs.Moves.{with_regs}
 
 -- ---- numbers
 

@@ -1,13 +1,12 @@
 -- What it means that the code of a step does the step: for each way in which the step can come out the machine comes there, in
 -- at most as many instructions.
-use Rattle.std.specs.Prelude.{◌≡◌, ℕ, suc, ◌+◌, ◌-◌, List, length, drop, Some, slice_get}
+use Rattle.std.specs.Prelude.{◌≡◌, ℕ, ◌+◌, ◌-◌, List, drop, Some, slice_get}
 use Rattle.base16.specs.declared.end.EndKind.{EndKind}
-use Rattle.c_run.specs.Runs.{Run, Stop, Live, Ended as Over, NeedsReading as Lacks, Undefined, Wrong, Outcome, Went, Stopped}
+use Rattle.c_run.specs.Runs.{Run, Live, Ended as Over, NeedsReading as Lacks, Undefined, Wrong, Outcome, Went, Stopped}
 use Rattle.c_values.specs.declared.state.State.{State}
 use Rattle.ideal430.specs.Ideal.{Ideal}
 use Rattle.ideal430.specs.declared.state.IdealEnd.TheVariants.{Running, Ended, NeedsReading}
 use Rattle.cells430.specs.Stretch.{StepsTo, Leads}
-use Rattle.ir.specs.declared.form.Step.{Step}
 use Rattle.ir.specs.declared.form.StepKind.{StepKind}
 use Rattle.ir.specs.declared.control.Frame.{Frame}
 use Rattle.ir.specs.declared.control.Temporary.{Temporary}
@@ -15,7 +14,7 @@ use Rattle.ir.specs.declared.control.Control.{Control}
 use Rattle.ir.specs.declared.control.Control.TheVariants.{At}
 use Rattle.ir.specs.Machine.{act}
 use Rattle.matching.specs.Simulates.{MachineMatches}
-use Rattle.steps430.specs.Setting.{Setting, function_of, step_code, IsLaid}
+use Rattle.steps430.specs.Setting.{Setting, function_of}
 use Rattle.steps430.specs.Standing.{StandsAt}
 
 -- The next instruction makes a mark, and just behind it the words match the state of the run.

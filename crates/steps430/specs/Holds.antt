@@ -1,5 +1,5 @@
 -- Temporaries are held: each temporary of a live call stands in its word of the call's frame.
-use Rattle.std.specs.Prelude.{◌≡◌, ℕ, suc, ◌+◌, ◌*◌, ◌≤◌, if◌then◌else◌, nat_lt, Bool, true, false, not, List, [], ◌∷◌, length, reverse, Option, Some, None}
+use Rattle.std.specs.Prelude.{◌≡◌, ℕ, ◌+◌, ◌*◌, ◌≤◌, if◌then◌else◌, nat_lt, Bool, true, false, not, List, [], ◌∷◌, length, reverse, Option, Some, None}
 use Rattle.base16.specs.declared.image.Kind.TheVariants as kind
 use Rattle.c_values.specs.declared.value.Location.{Location}
 use Rattle.c_values.specs.declared.state.Call.{Call}

@@ -1,5 +1,5 @@
 -- A form with all that its runs rest on: its program, where its code stands, and the readings.
-use Rattle.std.specs.Prelude.{◌≡◌, ℕ, suc, ◌+◌, ◌*◌, ◌%◌, ◌<◌, ◌≤◌, List, [], ◌∷◌, ◌++◌, length, Option, Some, None, slice_get, Ok}
+use Rattle.std.specs.Prelude.{◌≡◌, ℕ, ◌+◌, ◌*◌, ◌%◌, ◌<◌, ◌≤◌, List, [], ◌∷◌, ◌++◌, length, Option, Some, None, slice_get, Ok}
 use Rattle.base16.specs.Board.{code_start, code_end}
 use Rattle.base16.specs.declared.image.Kind.{Kind}
 use Rattle.base16.specs.declared.reading.Reading.{Reading}
@@ -10,7 +10,7 @@ use Rattle.c_values.specs.declared.state.Object.{Object}
 use Rattle.c_values.specs.declared.state.Saved.{Saved}
 use Rattle.c_values.specs.declared.state.State.{State}
 use Rattle.c_values.specs.declared.value.Value.{Value}
-use Rattle.core_tree.specs.Data.{global_address, stamp_address}
+use Rattle.core_tree.specs.Data.{global_address}
 use Rattle.core_tree.specs.declared.program.Core.{Core}
 use Rattle.isa430.specs.declared.instr.Instr.{Instr}
 use Rattle.isa430.specs.Table.{size_of}
@@ -33,7 +33,7 @@ use Rattle.ir.specs.Table.{reach}
 use Rattle.matching.specs.Covering.{Apart}
 use Rattle.matching.specs.Laid.{IsMade}
 use Rattle.matching.specs.Matches.{offset_in, placed, address_of}
-use Rattle.select430.specs.Frames.{word, temporaries_at, address_or, offset_or, stamp_at}
+use Rattle.select430.specs.Frames.{temporaries_at, address_or, offset_or}
 use Rattle.select430.specs.Parts.{Addresses, parts_code}
 use Rattle.select430.specs.Code.{code_of_step}
 

@@ -1,9 +1,8 @@
 -- Where the machine stands while the run of a form is at a point: its code and its cells are in memory, and the stack is that
 -- of the live calls. No block is open.
-use Rattle.std.specs.Prelude.{◌≡◌, ℕ, suc, ◌+◌, ◌*◌, ◌<◌, ◌≤◌, ◌⊎◌, ℤ, false, List, [], ◌∷◌, length, drop, reverse, Option, Some, None}
+use Rattle.std.specs.Prelude.{◌≡◌, ℕ, ◌+◌, ◌<◌, ◌≤◌, ◌⊎◌, ℤ, false, List, [], ◌∷◌, length, drop, reverse, Some, None}
 use Rattle.base16.specs.Board.{outputs_start, outputs_end, segment_start, segment_top, first_stack_pointer}
 use Rattle.base16.specs.Integer.{wrapped}
-use Rattle.base16.specs.declared.image.Kind.{Kind}
 use Rattle.c_run.specs.Actions.{kept}
 use Rattle.c_run.specs.Runs.{Run}
 use Rattle.c_values.specs.declared.state.Call.{Call}
