@@ -1,6 +1,7 @@
 pub mod CodeSizes
 pub mod Equations
-pub mod Placing
 pub mod Members
+pub mod Placing
 pub mod StmtEquations
 pub mod StmtTurns
+pub mod Updates

@@ -11,7 +11,7 @@ use Rattle.ir.specs.declared.form.Operand.TheVariants as operand
 use Rattle.ir.specs.declared.form.Operation.{Operation}
 use Rattle.ir.specs.declared.form.Keep.{Keep}
 use Rattle.ir.specs.declared.form.Keep.TheVariants as keep
-use Rattle.ir_gen.specs.Code.{Code, Coded, Part, at_node, bit, choice, expr, store_step, truth_code, unless}
+use Rattle.ir_gen.specs.Code.{Code, Coded, Part, at_node, expr, store_step, unless}
 use Rattle.ir_build.specs.declared.parts.Part.{Part as Found}
 
 -- the steps of a code behind others, at a depth
@@ -56,21 +56,11 @@ one_step node k = at_node node k ∷ []
 abbrev pub then_one : Code → ℕ → StepKind → Code
 then_one c node k = record { size = c.size + 1; steps = λ p d. c.steps p d ++ one_step node k }
 
-abbrev pub both_one : Code → Code → ℕ → StepKind → Code
-both_one a b node k = record {
-  size = a.size + (b.size + 1);
-  steps = λ p d. a.steps p d ++ (b.steps (p + a.size) (d + 1) ++ one_step node k);
-}
-
 -- what stands behind the arguments of a call
 abbrev pub call_end : ℕ → ℕ → ℕ → ℕ → List Step
 call_end node function n d = at_node node (step.Call d function n) ∷ at_node node (step.Result d true) ∷ []
 
--- `&&` and `||`
-abbrev pub either : (and : Bool) → ℕ → IntType → IntType → Code → Code → Code
-either true node t own left right = choice node t left (truth_code node own right) (bit node (pos 0))
-either false node t own left right = choice node t left (bit node (pos 1)) (truth_code node own right)
-
+-- the last steps of `&&`, and the first ones of `||`
 abbrev pub and_end : ℕ → IntType → ℕ → ℕ → List Step
 and_end node own end d =
     at_node node (step.Truth d own operand.Temporary)
@@ -79,3 +69,23 @@ and_end node own end d =
 abbrev pub or_begin : ℕ → IntType → ℕ → ℕ → ℕ → List Step
 or_begin node t to end d =
     at_node node (unless t to d) ∷ at_node node (step.Put d (operand.Constant (pos 1))) ∷ at_node node (step.Jump end) ∷ []
+
+-- behind a part that gives a value or a place: an expression above that and a step
+abbrev pub above_one : Code → ℕ → StepKind → (p d : ℕ) → List Step
+above_one c node k p d = c.steps p (d + 1) ++ one_step node k
+
+-- `&&` and `||` behind their left sides
+abbrev pub and_behind : ℕ → (t own : IntType) → Code → (p d : ℕ) → List Step
+and_behind node t own right p d =
+    at_node node (unless t (p + 1 + (right.size + 1) + 1) d)
+    ∷ (right.steps (p + 1) d ++ and_end node own (p + 1 + (right.size + 1) + 1 + 1) d)
+
+abbrev pub or_behind : ℕ → (t own : IntType) → Code → (p d : ℕ) → List Step
+or_behind node t own right p d =
+    or_begin node t (p + 1 + 1 + 1) (p + 1 + 1 + 1 + (right.size + 1)) d
+    ++ (right.steps (p + 1 + 1 + 1) d ++ one_step node (step.Truth d own operand.Temporary))
+
+-- an update with a mark behind its place
+abbrev pub update_behind : ℕ → Kind → Operation → Code → Bool → (p d : ℕ) → List Step
+update_behind node k o value old p d =
+    at_node node (step.Peek d k) ∷ (value.steps (p + 1) (d + 2) ++ update_end node k o old d)

@@ -1,10 +1,11 @@
-//! The three-address form of a program, made as its definition says: its variables and locals, the steps that stand between the
-//! parts of expressions or choose a group of a `switch`, and how many steps expressions and statements have.
+//! The three-address form of a program, made as its definition says: its variables and locals, the steps of expressions, those
+//! that choose a group of a `switch`, and how many steps statements have.
 #![tactic(auto)]
 
 mod cases;
 mod choices;
 mod emit;
+mod expressions;
 mod kinds;
 mod laying;
 mod locals;
@@ -15,6 +16,7 @@ mod variables;
 
 pub use cases::{case_steps, default_place};
 pub use choices::{put_and, put_branch, put_or, put_truth};
+pub use expressions::{expr_steps, place_steps};
 pub use kinds::{
     constant, pointer_plus, put_local, put_local_update, put_update, scalar_of, sum_step,
     update_operation,
