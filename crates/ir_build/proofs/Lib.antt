@@ -1,5 +1,7 @@
 pub mod CodeSizes
 pub mod Equations
+pub mod Joining
+pub mod Loops
 pub mod Members
 pub mod Placing
 pub mod StmtEquations

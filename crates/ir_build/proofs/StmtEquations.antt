@@ -1,5 +1,5 @@
 -- The steps of statements that have lists of statements in them.
-use Rattle.std.proofs.Common.{◌≡◌, ℕ, ◌+◌, List, map, ap, ◌∙◌, rules, arith}
+use Rattle.std.proofs.Common.{◌≡◌, ℕ, ◌+◌, List, map, Option, Some, None, ap, ◌∙◌, rules, arith}
 use Rattle.core_tree.specs.Layout.{int_type_of}
 use Rattle.core_tree.specs.declared.types.Slot.{Slot}
 use Rattle.core_tree.specs.declared.types.Struct.{Struct}
@@ -30,6 +30,14 @@ module _ (layer : StmtKind-F (ℕ → Body) Grouped Body → ℕ → Body) (grou
 
   fold-Switch : (on : Expr) (groups : List Group) → kind_by (k.Switch on groups) ≡ layer (StmtKind-F.Switch on (map group_by groups))
   fold-Switch on groups = search (rules, the_lemmas)
+
+  fold-For-None : (test part : Option Expr) (body : Stmt)
+      → kind_by (k.For None test part body) ≡ layer (StmtKind-F.For None test part (stmt_by body))
+  fold-For-None test part body = search (rules, the_lemmas)
+
+  fold-For-Some : (first : Stmt) (test part : Option Expr) (body : Stmt)
+      → kind_by (k.For (Some first) test part body) ≡ layer (StmtKind-F.For (Some (stmt_by first)) test part (stmt_by body))
+  fold-For-Some first test part body = search (rules, the_lemmas)
 
   fold-group : (g : Group) → group_by g ≡ group (record { labels = (out-Group g).labels; body = map stmt_by (out-Group g).body })
   fold-group g = search (rules, the_lemmas)
@@ -70,3 +78,25 @@ module _ (S : List Struct) (O : List (List Slot)) where
       → (b.stmt S O s).steps p brk cont
       ≡ (b.switch_body s.node (int_type_of on.ty) (c.expr S on) (map (grouped S O) groups)).steps p brk cont
   switch_steps s on groups p brk cont is = ap (λ (z : Body). z.steps p brk cont) (switch_is s on groups is)
+
+  -- the loop of a `for`
+  abbrev pub for_loop : Stmt → (test part : Option Expr) → Stmt → Body
+  for_loop s test part body =
+      b.loop_body s.node (b.optional_guard S O s.node test) (b.stmt S O body) (b.optional_part S O s.node part)
+
+  pub for_none_is : (s : Stmt) (first : Option Stmt) (test part : Option Expr) (body : Stmt) → s.kind ≡ k.For first test part body
+      → first ≡ None → b.stmt S O s ≡ b.then_body b.no_body (for_loop s test part body)
+  for_none_is s first test part body is none =
+      ap (λ (kind : StmtKind). b.stmt_kind S O kind s.node) is
+      ∙ ap (λ (f : Option Stmt). b.stmt_kind S O (k.For f test part body) s.node) none
+      ∙ ap (λ (l : ℕ → Body). l s.node)
+      (fold-For-None (b.stmt_layer S O) (λ g. record { labels = g.labels; body = b.bodies g.body }) test part body)
+
+  pub for_some_is : (s : Stmt) (first : Option Stmt) (f : Stmt) (test part : Option Expr) (body : Stmt)
+      → s.kind ≡ k.For first test part body → first ≡ Some f
+      → b.stmt S O s ≡ b.then_body (b.stmt S O f) (for_loop s test part body)
+  for_some_is s first f test part body is some =
+      ap (λ (kind : StmtKind). b.stmt_kind S O kind s.node) is
+      ∙ ap (λ (g : Option Stmt). b.stmt_kind S O (k.For g test part body) s.node) some
+      ∙ ap (λ (l : ℕ → Body). l s.node)
+      (fold-For-Some (b.stmt_layer S O) (λ g. record { labels = g.labels; body = b.bodies g.body }) f test part body)
