@@ -4,6 +4,7 @@ pub mod Joining
 pub mod Loops
 pub mod Members
 pub mod Placing
+pub mod Serving
 pub mod StmtEquations
 pub mod StmtTurns
 pub mod Updates

@@ -1,8 +1,11 @@
 //! The form of a program.
 
 ghost use Rattle.std.specs.Prelude.{◌≡◌, IfOk};
+ghost use Rattle.core_tree.specs.LawfulCore.{LawfulCore};
 ghost use Rattle.c_meaning.specs.After.{main_of};
 ghost use Rattle.ir_gen.specs.Form as spec;
+ghost use Rattle.ir_gen.specs.Plain.{IsPlain};
+ghost use Rattle.ir_gen.specs.Serves.{Serves};
 
 use crate::functions::functions_of;
 use crate::variables::globals_of;
@@ -11,6 +14,7 @@ use c_start::main_of;
 use core_layout::structs_laid;
 use core_tree::Core;
 use ir::Ir;
+use ir_gen::forms_serve_lawful_programs;
 use std::alloc::Global;
 
 /// The number of the function `main`, and 0 without it.
@@ -28,13 +32,9 @@ fn main_number(core: &Core) -> Result<u16, NoMemory>
     }
 }
 
-/// The three-address form of a program.
-///
-/// # Errors
-/// `NoMemory` if memory runs out, if an object has more than 16,383 bytes, or if a number of the form has more bits
-/// than a form has room for.
-pub fn generate(alloc: Global, core: &Core) -> Result<Ir, NoMemory>
-    ensures form { IfOk result (λ ir. ir ≡ spec.form_of core.now) }
+/// The three-address form of a program, made as its definition says.
+fn form_made(alloc: Global, core: &Core) -> Result<Ir, NoMemory>
+    ensures { IfOk result (λ ir. ir ≡ spec.form_of core.now) }
 {
     let known = structs_laid(alloc, core.structs.as_slice())?;
     let main = main_number(core)?;
@@ -46,4 +46,18 @@ pub fn generate(alloc: Global, core: &Core) -> Result<Ir, NoMemory>
         tables: Sequence::new(alloc),
         main,
     })
+}
+
+/// The three-address form of a program. That of a lawful program without annotated statements serves it.
+///
+/// # Errors
+/// `NoMemory` if memory runs out, if an object has more than 16,383 bytes, or if a number of the form has more bits
+/// than a form has room for.
+#[tactic(auto, using(crate::proofs::Serving::served))]
+pub fn generate(alloc: Global, core: &Core) -> Result<Ir, NoMemory>
+    ensures form { IfOk result (λ ir. ir ≡ spec.form_of core.now) }
+    ensures serves { LawfulCore core.now → IsPlain core.now → IfOk result (λ ir. Serves core.now ir) }
+{
+    forms_serve_lawful_programs();
+    form_made(alloc, core)
 }
