@@ -140,17 +140,24 @@ mark_follows p k r go segment segment2 sp2 ps ps2 rr r2 m st y all own comes cov
     (λ _. go)) segment segment2 sp2 ps ps2 rr r2 m st (drop r.used p.readings) y all own comes covered
     part shape closed (λ s. refl) more
 
--- what follows after some instructions
-pub follows_after : (p : Setting) (j k : ℕ) (o : Outcome Control) (t : Ideal) → Leads j t (λ u. Follows p (suc k) o u)
-    → Follows p (j + suc k) o t
-follows_after p j k (Went c q) t h = leads_then j (suc k) t (Follows p (suc k) (Went c q)) (StandsAt p c q) h (λ u l. l)
+-- what follows after some instructions that make no mark
+pub follows_after : (p : Setting) (j k : ℕ) (o : Outcome Control) (t : Ideal)
+    → Leads j t (λ u. (u.marks ≡ t.marks) × Follows p (suc k) o u) → Follows p (j + suc k) o t
+follows_after p j k (Went c q) t h =
+    leads_then j (suc k) t (λ u. (u.marks ≡ t.marks) × Follows p (suc k) (Went c q) u) (StandsAt p c q) h (λ u l. l.1)
 follows_after p j k (Stopped (Live s used)) t h =
     let e : j + (suc k - 1) ≡ j + suc k - 1 = omega arith in
     subst (λ (i : ℕ). Leads i t (MakesMark p s used)) e
-    (leads_then j (suc k - 1) t (Follows p (suc k) (Stopped (Live s used))) (MakesMark p s used) h (λ u l. l))
+    (leads_then j (suc k - 1) t (λ u. (u.marks ≡ t.marks) × Follows p (suc k) (Stopped (Live s used)) u) (MakesMark p s used) h
+    (λ u l. l.1))
 follows_after p j k (Stopped (Over kind s used)) t h =
-    leads_then j (suc k) t (Follows p (suc k) (Stopped (Over kind s used))) (HasEnded p kind s used) h (λ u l. l)
-follows_after p j k (Stopped Lacks) t h = leads_then j (suc k) t (Follows p (suc k) (Stopped Lacks)) LacksReading h (λ u l. l)
+    let e : j + (suc k - 1) ≡ j + suc k - 1 = omega arith in
+    subst (λ (i : ℕ). Leads i t (HasEnded p kind s used)) e
+    (leads_then j (suc k - 1) t (λ u. (u.marks ≡ t.marks) × Follows p (suc k) (Stopped (Over kind s used)) u)
+    (HasEnded p kind s used) h (λ u l. l.1))
+follows_after p j k (Stopped Lacks) t h =
+    leads_then j (suc k) t (λ u. (u.marks ≡ t.marks) × Follows p (suc k) (Stopped Lacks) u) (LacksReading t.marks) h
+    (λ u l. subst (λ (n : ℕ). Leads (suc k) u (LacksReading n)) l.0 l.1)
 follows_after p j k (Stopped (Undefined rule node)) t h = tt
 follows_after p j k (Stopped Wrong) t h = tt
 

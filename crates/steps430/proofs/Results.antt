@@ -24,16 +24,11 @@ use Rattle.steps430.specs.Setting.{Setting, function_of, step_at, step_code, cod
 use Rattle.steps430.specs.Holds.{HasCode, value_code}
 use Rattle.steps430.specs.Standing.{Stage, IsAt, Behind, StandsAt}
 use Rattle.steps430.specs.Follows.{Follows}
+use Rattle.steps430.specs.Calls.{DoesResult}
 use Rattle.steps430.proofs.Moves.{From, with_level}
 use Rattle.steps430.proofs.Outcomes.{depth_follows}
 use Rattle.steps430.proofs.Steps.{falls, stands_now, keeps_last}
 use Rattle.steps430.proofs.Plain.{room_of}
-
--- the code of a step that takes what a call gave does it, in at most so many instructions
-abbrev pub TakesResult : Setting → (limit : ℕ) → StepKind → Type 0
-TakesResult p limit k = (v : Value) (b : Frame) (below : List Frame) (node : ℕ) (r : Run) (t : Ideal)
-    → slice_get (function_of p b.function).steps b.position ≡ Some (record { node = node; kind = k })
-    → StandsAt p (Returning v (b ∷ below)) r t → Follows p limit (act_result p.ir p.readings k v b below r) t
 
 module _ (p : Setting) (lay : IsLaid p) where
   -- the step behind a call stands in code
@@ -69,7 +64,7 @@ module _ (p : Setting) (lay : IsLaid p) where
             size = ap (λ (x : ℕ). x + code_bytes (step_code p b.function k)) pc;
           })
 
-  pub result_kept_does : (d : ℕ) → TakesResult p 1 (step.Result d true)
+  pub result_kept_does : (d : ℕ) → DoesResult p 1 (step.Result d true)
   result_kept_does d v b ls node r t e h =
       begins_behind 1 (step.Result d true) v b ls node r t e h (λ all own segment sp ps rr m st y stage low has stands code.
       depth_follows p 1 _ d b.temporaries _ r (λ depth.
@@ -80,7 +75,7 @@ module _ (p : Setting) (lay : IsLaid p) where
       sp ps rr m st y stage low (falls p lay (step.Result d true) b.function b.position node
       (rr 0) tt stands code) depth room refl has))
 
-  pub result_left_does : (d : ℕ) → TakesResult p 0 (step.Result d false)
+  pub result_left_does : (d : ℕ) → DoesResult p 0 (step.Result d false)
   result_left_does d v b ls node r t e h =
       begins_behind 0 (step.Result d false) v b ls node r t e h (λ all own segment sp ps rr m st y stage low has stands code.
       depth_follows p 0 _ d b.temporaries _ r (λ depth.

@@ -141,7 +141,8 @@ module _ (p : Setting) (lay : IsLaid p) (real : IsReadings p.readings) where
         let c = from_do p f (rr 0) (One Call false (Immediate 65296)) (keep p.ir fn d 12) (step_at p f (q + 1)) code in
         let comes = sense_lacks p.code p.low p.high segment sp ps stage.ground all stage.shape rr m st
         (outside r.state.marks (drop r.used p.readings)) channel y stage.facts stage.words c.0 stage.stack is few none in
-        leads_step 1 t _ LacksReading comes.step (leads_now 1 _ LacksReading (record { lacks = refl }))
+        leads_step 1 t _ (LacksReading r.state.marks) comes.step
+        (leads_now 1 _ (LacksReading r.state.marks) (record { lacks = refl; marks = refl }))
 
     on_reading : (x : Option Reading) → slice_get p.readings r.used ≡ x
         → Follows p 2 (and_then (and_then (sensed channel x r) (λ v. λ u. and_then (mark_by u.left u)
@@ -175,11 +176,14 @@ module _ (p : Setting) (lay : IsLaid p) (real : IsReadings p.readings) where
       let pc : ℕ = rr 0 + size_of (Two Mov false (constant (pos channel)) (ToReg 15)) in
       let x : Course = outside r.state.marks (drop r.used p.readings) in
       let o : Outcome Control = (sense p.readings channel >>= gave f q first ls ts) r in
+      let Q : Ideal → Type 0 = λ u. (u.marks ≡ r.state.marks) × Follows p 2 o u in
       follows_after p 1 1 o (at segment ps rr m st x y)
-      (brings_number p (Follows p 2 o) 0 r.state r.next (level f q first ts ∷ ls) all own segment sp sp ps rr m st x y
+      (brings_number p Q 0 r.state r.next (level f q first ts ∷ ls) all own segment sp sp ps rr m st x y
       (constant (pos channel)) 15 (wrapped (pos channel)) stage (number_is (pos channel)) c.0 (omega arith) (λ st2 y2 stage2.
       let is : wrapped (pos channel) ≡ channel = omega arith in
-      leads_now 0 _ (Follows p 2 o)
-      (on_reading d channel few f q first ts ls r depth room all own segment sp ps (set_reg (set_reg rr 0 pc) 15 (wrapped
-      (pos channel))) m
-      st2 y2 stage2 low is c.1 (slice_get p.readings r.used) refl)))))
+      leads_now 0 _ Q (
+        refl,
+        on_reading d channel few f q first ts ls r depth room all own segment sp ps (set_reg (set_reg rr 0 pc) 15 (wrapped
+            (pos channel))) m
+            st2 y2 stage2 low is c.1 (slice_get p.readings r.used) refl,
+      )))))

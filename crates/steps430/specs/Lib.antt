@@ -1,4 +1,8 @@
+pub mod Routines
 pub mod Setting
 pub mod Holds
 pub mod Standing
 pub mod Follows
+pub mod Outside
+pub mod Calls
+pub mod Whole

@@ -1,6 +1,6 @@
 -- A form with all that its runs rest on: its program, where its code stands, and the readings.
-use Rattle.std.specs.Prelude.{◌≡◌, ℕ, ◌+◌, ◌*◌, ◌%◌, ◌<◌, ◌≤◌, List, [], ◌∷◌, ◌++◌, length, Option, Some, None, slice_get, Ok}
-use Rattle.base16.specs.Board.{code_start, code_end}
+use Rattle.std.specs.Prelude.{◌≡◌, ℕ, ◌+◌, ◌*◌, ◌%◌, ◌<◌, ◌≤◌, ◌≢◌, ◌⊎◌, List, [], ◌∷◌, ◌++◌, length, Option, Some, None, slice_get, Ok}
+use Rattle.base16.specs.Board.{stack_start, stack_end, data_start, data_end, code_start, code_end}
 use Rattle.base16.specs.declared.image.Kind.{Kind}
 use Rattle.base16.specs.declared.reading.Reading.{Reading}
 use Rattle.c_run.specs.Actions.{kept}
@@ -10,11 +10,12 @@ use Rattle.c_values.specs.declared.state.Object.{Object}
 use Rattle.c_values.specs.declared.state.Saved.{Saved}
 use Rattle.c_values.specs.declared.state.State.{State}
 use Rattle.c_values.specs.declared.value.Value.{Value}
-use Rattle.core_tree.specs.Data.{global_address}
+use Rattle.core_tree.specs.Data.{global_address, stamp_address}
 use Rattle.core_tree.specs.declared.program.Core.{Core}
 use Rattle.isa430.specs.declared.instr.Instr.{Instr}
 use Rattle.isa430.specs.Table.{size_of}
 use Rattle.run430.specs.Code.{Placed}
+use Rattle.rt430.specs.declared.words.Helper.{Helper}
 use Rattle.ir.specs.declared.form.Ir.{Ir}
 use Rattle.ir.specs.declared.form.IrFunction.{IrFunction}
 use Rattle.ir.specs.declared.form.Step.{Step}
@@ -36,6 +37,7 @@ use Rattle.matching.specs.Matches.{offset_in, placed, address_of}
 use Rattle.select430.specs.Frames.{temporaries_at, address_or, offset_or}
 use Rattle.select430.specs.Parts.{Addresses, parts_code}
 use Rattle.select430.specs.Code.{code_of_step}
+use Rattle.steps430.specs.Routines.{HasRoutine}
 
 -- ---- functions
 
@@ -146,11 +148,14 @@ abbrev pub NumberedFrom : ℕ → List Object → Type 0
 NumberedFrom n [] = Unit {0}
 NumberedFrom n (o ∷ os) = (o.number ≡ n) × NumberedFrom (n + 1) os
 
--- an object has an address, and no other scalar stands where the one at an offset of it does
+-- An object has an address, and no other scalar stands where the one at an offset of it does, nor a stamp. It lies in the
+-- data or in the stack.
 pub record StandsAlone (core : Core) (s : State) (n offset : ℕ) (k : Kind) : Type 0 where
   pub address : ℕ
   pub is : address_of (placed core (kept s)) n ≡ Some address
   pub apart : Every (Apart n address offset k) (placed core (kept s))
+  pub stamps : (m : ℕ) → (stamp_address core m ≢ address + offset) × (stamp_address core m + 2 ≢ address + offset)
+  pub site : ((data_start ≤ address) × (address + offset < data_end)) ⊎ ((stack_start ≤ address) × (address + offset < stack_end))
 
 -- The form is laid out as the program says, and its code stands.
 pub record IsLaid (p : Setting) : Type 0 where
@@ -159,6 +164,8 @@ pub record IsLaid (p : Setting) : Type 0 where
   pub steps : (g q : ℕ) (s : Step) → slice_get (function_of p g).steps q ≡ Some s → StepStands p g q s
   pub first : (g h : ℕ) → (p.addresses h).function g ≡ step_at p g 0
   pub below : (g q : ℕ) → step_at p g q < 65280
+  -- each helper routine stands where it is called
+  pub helpers : (g : ℕ) (which : Helper) → HasRoutine p.code p.low p.high ((p.addresses g).helper which) which
   pub frames : (g : ℕ) (fn : IrFunction) → slice_get p.ir.functions g ≡ Some fn → FrameFits fn
   -- variables and locals have the addresses that the program gives them
   pub globals : (n : ℕ) → n < length p.core.globals → address_or (slice_get p.ir.globals n) ≡ global_address p.core n

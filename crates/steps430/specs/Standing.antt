@@ -1,10 +1,11 @@
 -- Where the machine stands while the run of a form is at a point: its code and its cells are in memory, and the stack is that
 -- of the live calls. No block is open.
-use Rattle.std.specs.Prelude.{◌≡◌, ℕ, ◌+◌, ◌<◌, ◌≤◌, ◌⊎◌, ℤ, false, List, [], ◌∷◌, length, drop, reverse, Some, None}
+use Rattle.std.specs.Prelude.{◌≡◌, ℕ, ◌+◌, ◌<◌, ◌≤◌, ◌⊎◌, ℤ, false, List, [], ◌∷◌, length, drop, reverse, Some, None, Ok}
 use Rattle.base16.specs.Board.{outputs_start, outputs_end, segment_start, segment_top, first_stack_pointer}
 use Rattle.base16.specs.Integer.{wrapped}
 use Rattle.c_run.specs.Actions.{kept}
 use Rattle.c_run.specs.Runs.{Run}
+use Rattle.c_values.specs.Values.{all_present}
 use Rattle.c_values.specs.declared.state.Call.{Call}
 use Rattle.c_values.specs.declared.state.State.{State}
 use Rattle.c_values.specs.declared.value.Cell.{Cell as Scalar}
@@ -73,8 +74,8 @@ pub record ReturnsBelow (all own : Cells) (to segment end older at : ℕ) : Type
   pub next : segment ≡ older + 1
   pub top : end + 2 ≡ segment_top segment
   pub link : all end ≡ Some (Word (Some at))
-  pub low : segment_start older ≤ at
-  pub high : at + 2 ≤ segment_top older
+  pub low : segment_start older + 2 ≤ at
+  pub high : at + 2 < segment_top older
   pub word : all at ≡ Some (Word (Some to))
   pub clear : own at ≡ None
 
@@ -117,7 +118,7 @@ pub record Stage (p : Setting) (s : State) (next : ℕ) (frames : List Frame) (a
 -- where the arguments of a call are, in the frame of the caller
 abbrev pub arguments_at : Setting → (base d : ℕ) → List Frame → ℕ → Type 0
 arguments_at p base d [] w = Unit {0}
-arguments_at p base d (b ∷ below) w = w ≡ base + temporary_at (function_of p b.function) d
+arguments_at p base d (b ∷ below) w = w ≡ base + temporary_at (function_of p b.function) (length b.temporaries)
 
 -- Between two steps of a call the stack pointer is at its frame. At the entry of a function it is at the word to which the
 -- call returns, and R14 says where the arguments are. Behind a call R12 has what it gave.
@@ -126,7 +127,9 @@ pub data IsAt (p : Setting) (alive : List Placed) (all own : Cells) (segment bas
       → r 0 ≡ step_at p f q → IsAt p alive all own segment base sp r (At f q first ts below)
   Entering : {f d : ℕ} {args : List Value} {below : List Frame} → base ≡ sp + 2
       → all sp ≡ Some (Word (Some (return_to p below))) → own sp ≡ None → r 0 ≡ step_at p f 0
-      → arguments_at p base d below (r 14) → IsAt p alive all own segment base sp r (Calling f d args below)
+      → arguments_at p base d below (r 14) → all_present args ≡ Ok tt → (below ≡ [] → args ≡ [])
+      → length args ≡ (function_of p f).params
+      → IsAt p alive all own segment base sp r (Calling f d args below)
   Behind : {v : Value} {b : Frame} {below : List Frame} → base ≡ sp → segment_start segment + 4 ≤ sp
       → r 0 ≡ step_at p b.function b.position → HasCode (value_code alive v) (r 12)
       → IsAt p alive all own segment base sp r (Returning v (b ∷ below))
