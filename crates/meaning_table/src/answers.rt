@@ -1,6 +1,6 @@
 //! What programs come to.
 
-ghost use Rattle.std.specs.Prelude.{◌<◌, ◌≤◌, ◌^◌, length};
+ghost use Rattle.std.specs.Prelude.{◌<◌, ◌^◌, length};
 
 use crate::forms::comes_to;
 use base16::Reading;
