@@ -41,7 +41,7 @@ CopiesOne p f = (Q : Ideal → Type 0) (n i : ℕ) (l : IrLocal) (v : Value) (ar
     → Stage p s next (level f 1 first [] ∷ below) all own segment sp sp ps rr m st
     → HasArguments p all (placed p.core (kept s)) args below (rr 14)
     → Here p.code p.low p.high (rr 0)
-    (Two Mov (is_char (first_kind l.scalars)) (Indexed 14 (2 * i)) (ToIndexed 1 (word l.offset)))
+    (Two Mov (is_char (first_kind l.scalars)) (Indexed 14 (word (2 * i))) (ToIndexed 1 (word l.offset)))
     → ((all2 own2 : Cells) (m2 : ℕ → ℕ) (st2 : Bytes) (y2 : Meter)
     → Stage p (with_scalar (first + i) 0 (fit (first_kind l.scalars) v) s) next (level f 1 first [] ∷ below) all2 own2 segment sp sp
     ps (set_reg rr 0 (rr 0 + 6)) m2 st2
@@ -90,7 +90,7 @@ module _ (p : Setting) (lay : IsLaid p) (f : ℕ) (one : CopiesOne p f) (args : 
       let here_is : i + 0 ≡ i = omega arith in
       let fewer : length vs ≡ length ls = omega arith in
       let step : first + i + 1 ≡ first + suc i = omega arith in
-      let c = from_do p f (rr 0) (Two Mov (is_char k) (Indexed 14 (2 * i)) (ToIndexed 1 (word l.offset)))
+      let c = from_do p f (rr 0) (Two Mov (is_char k) (Indexed 14 (word (2 * i))) (ToIndexed 1 (word l.offset)))
       (copies p.ir (function_of p f) (suc i) ls) (step_at p f 1) code in
       let after : State = with_params (first + i + 1) (kinds ls) vs s2 in
       let moved : with_params (first + suc i) (kinds ls) vs s2 ≡ after = ap (λ (j : ℕ). with_params j (kinds ls) vs s2) (sym step) in
