@@ -35,7 +35,8 @@ module _ (p : Setting) (Q : Ideal → Type 0) (n : ℕ) (s : State) (next : ℕ)
     (segment base sp : ℕ) (ps r m : ℕ → ℕ) (st : Bytes) (x : Course) (y : Meter)
     (h : Stage p s next frames all own segment base sp ps r m st) (i o from a w : ℕ) (old : Option ℕ) where
   pub copies_word : Here p.code p.low p.high (r 0) (Two Mov false (Indexed 14 i) (ToIndexed 1 o)) → r 14 + i ≡ from → from < 65536
-      → sp + o ≡ a → segment_start segment ≤ a → a < segment_top segment → all from ≡ Some (Word (Some w)) → all a ≡ Some (Word old)
+      → sp + o ≡ a → segment_start segment ≤ a → a < segment_top segment → all from ≡ Some (Word (Some w))
+      → all a ≡ Some (Word old)
       → ((m2 : ℕ → ℕ) (st2 : Bytes) (y2 : Meter) → Facts p.code p.low p.high (set_cell all a (Word (Some w))) m2 st2
       → AreWords (set_reg r 0 (r 0 + 6)) → Leads n (at segment ps (set_reg r 0 (r 0 + 6)) m2 st2 x y2) Q)
       → Leads (suc n) (at segment ps r m st x y) Q
@@ -50,13 +51,15 @@ module _ (p : Setting) (Q : Ideal → Type 0) (n : ℕ) (s : State) (next : ℕ)
       let target : Target false (next_regs (Two Mov false (Indexed 14 i) (ToIndexed 1 o)) r) (ToIndexed 1 o) (InMemory a) =
       subst (λ (b : ℕ). Target false (next_regs (Two Mov false (Indexed 14 i) (ToIndexed 1 o)) r) (ToIndexed 1 o) (InMemory b)) to
       (to_at h.stack (omega arith) (omega arith)) in
-      let effect : two_at Mov false (Indexed 14 i) (ToIndexed 1 o) r m (InMemory from) (InMemory a) ≡ Stores (set_reg r 0 (r 0 + 6)) a w =
+      let effect : two_at Mov false (Indexed 14 i) (ToIndexed 1 o) r m (InMemory from) (InMemory a) ≡ Stores (set_reg r 0
+      (r 0 + 6)) a w =
       ap (λ (v : ℕ). Stores (set_reg r 0 (r 0 + 6)) a v) there.0 in
       stores p.code p.low p.high segment sp ps h.ground Q n all h.shape r m st x y (Indexed 14 i) (ToIndexed 1 o) (InMemory from)
       (set_reg r 0 (r 0 + 6)) a w old h.facts h.words here source target effect (there.1, there.2) place low top refl h.stack more
 
   pub copies_byte : Here p.code p.low p.high (r 0) (Two Mov true (Indexed 14 i) (ToIndexed 1 o)) → r 14 + i ≡ from → from < 65536
-      → sp + o ≡ a → segment_start segment ≤ a → a < segment_top segment → all from ≡ Some (Word (Some w)) → all a ≡ Some (Byte old)
+      → sp + o ≡ a → segment_start segment ≤ a → a < segment_top segment → all from ≡ Some (Word (Some w))
+      → all a ≡ Some (Byte old)
       → ((m2 : ℕ → ℕ) (st2 : Bytes) (y2 : Meter) → Facts p.code p.low p.high (set_cell all a (Byte (Some (w % 256)))) m2 st2
       → AreWords (set_reg r 0 (r 0 + 6)) → Leads n (at segment ps (set_reg r 0 (r 0 + 6)) m2 st2 x y2) Q)
       → Leads (suc n) (at segment ps r m st x y) Q
@@ -73,6 +76,9 @@ module _ (p : Setting) (Q : Ideal → Type 0) (n : ℕ) (s : State) (next : ℕ)
       (byte_to_at h.stack (omega arith)) in
       let effect : two_at Mov true (Indexed 14 i) (ToIndexed 1 o) r m (InMemory from) (InMemory a)
       ≡ Stores (set_reg r 0 (r 0 + 6)) (a - a % 2) (with_byte a (m (a - a % 2)) (w % 256)) =
-      ap (λ (v : ℕ). Stores (set_reg r 0 (r 0 + 6)) (a - a % 2) (with_byte a (m (a - a % 2)) v)) (low_byte m from w even there.0) in
-      stores_byte p.code p.low p.high segment sp ps h.ground Q n all h.shape r m st x y (Indexed 14 i) (ToIndexed 1 o) (InMemory from)
-      (set_reg r 0 (r 0 + 6)) a (w % 256) old h.facts h.words here source target effect there.1 place few low top refl h.stack more
+      ap (λ (v : ℕ). Stores (set_reg r 0 (r 0 + 6)) (a - a % 2) (with_byte a (m (a - a % 2)) v))
+      (low_byte m from w even there.0) in
+      stores_byte p.code p.low p.high segment sp ps h.ground Q n all h.shape r m st x y (Indexed 14 i) (ToIndexed 1 o)
+      (InMemory from)
+      (set_reg r 0 (r 0 + 6)) a (w % 256) old h.facts h.words here source target effect there.1 place few low top refl h.stack
+      more

@@ -58,7 +58,8 @@ abbrev pub CopiesArguments : Setting → (f n limit : ℕ) → Type 0
 CopiesArguments p f n limit = (args : List Value) (below : List Frame) (first : ℕ) (r : Run) (all own : Cells) (segment sp : ℕ)
     (ps rr m : ℕ → ℕ) (st : Bytes) (y : Meter)
     → Stage p r.state r.next (level f 1 first [] ∷ below) all own segment sp sp ps rr m st → segment_start segment + 4 ≤ sp
-    → all_present args ≡ Ok tt → length args ≡ (function_of p f).params → HasArguments p all (placed p.core (kept r.state)) args below (rr 14)
+    → all_present args ≡ Ok tt → length args ≡ (function_of p f).params
+    → HasArguments p all (placed p.core (kept r.state)) args below (rr 14)
     → From p f (rr 0) (copies p.ir (function_of p f) 0 (take n (function_of p f).locals)) (step_at p f 1)
     → Leads limit (at segment ps rr m st (outside r.state.marks (drop r.used p.readings)) y)
     (StandsAt p (At f 1 first [] below) (record r { state = with_params first (param_kinds (function_of p f)) args r.state }))

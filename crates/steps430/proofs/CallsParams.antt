@@ -1,5 +1,5 @@
 -- All arguments are copied, where each is.
-use Rattle.std.proofs.Common.{◌≡◌, ℕ, zero, suc, ◌+◌, ◌*◌, ◌<◌, ◌≤◌, refl, sym, ap, ◌∙◌, subst, arith, true, false, List, [], ◌∷◌, length, map, take, drop, Option, Some, None}
+use Rattle.std.proofs.Common.{◌≡◌, ℕ, zero, suc, ◌+◌, ◌*◌, ◌≤◌, refl, sym, ap, ◌∙◌, subst, arith, List, [], ◌∷◌, length, map, take, drop, Some}
 use Rattle.std.proofs.lemmas.List.{length-take-le}
 use Rattle.std.specs.Prelude.{slice_get}
 use Rattle.base16.specs.Board.{segment_start}
@@ -43,7 +43,8 @@ CopiesOne p f = (Q : Ideal → Type 0) (n i : ℕ) (l : IrLocal) (v : Value) (ar
     → Here p.code p.low p.high (rr 0)
     (Two Mov (is_char (first_kind l.scalars)) (Indexed 14 (word (2 * i))) (ToIndexed 1 (word l.offset)))
     → ((all2 own2 : Cells) (m2 : ℕ → ℕ) (st2 : Bytes) (y2 : Meter)
-    → Stage p (with_scalar (first + i) 0 (fit (first_kind l.scalars) v) s) next (level f 1 first [] ∷ below) all2 own2 segment sp sp
+    → Stage p (with_scalar (first + i) 0 (fit (first_kind l.scalars) v) s) next
+    (level f 1 first [] ∷ below) all2 own2 segment sp sp
     ps (set_reg rr 0 (rr 0 + 6)) m2 st2
     → HasArguments p all2 (placed p.core (kept (with_scalar (first + i) 0 (fit (first_kind l.scalars) v) s))) args below (rr 14)
     → Leads n (at segment ps (set_reg rr 0 (rr 0 + 6)) m2 st2 x y2) Q)
@@ -66,10 +67,12 @@ IsRest {A} all i rest = (j : ℕ) (x : A) → slice_get rest j ≡ Some x → sl
 abbrev kinds : List IrLocal → List Kind
 kinds ls = map (λ (l : IrLocal). first_kind l.scalars) ls
 
-module _ (p : Setting) (lay : IsLaid p) (f : ℕ) (one : CopiesOne p f) (args : List Value) (below : List Frame) (first : ℕ) (r : Run)
+module _ (p : Setting) (lay : IsLaid p) (f : ℕ) (one : CopiesOne p f) (args : List Value) (below : List Frame) (first : ℕ)
+    (r : Run)
     (segment sp : ℕ) (ps : ℕ → ℕ) (low : segment_start segment + 4 ≤ sp) (x : Course) where
   -- from a parameter on
-  pub copies_from : (ls : List IrLocal) (vs : List Value) (i : ℕ) (s : State) (all own : Cells) (rr m : ℕ → ℕ) (st : Bytes) (y : Meter)
+  pub copies_from : (ls : List IrLocal) (vs : List Value) (i : ℕ) (s : State) (all own : Cells) (rr m : ℕ
+      → ℕ) (st : Bytes) (y : Meter)
       → length vs ≡ length ls → IsRest (function_of p f).locals i ls → IsRest args i vs
       → Stage p s r.next (level f 1 first [] ∷ below) all own segment sp sp ps rr m st
       → HasArguments p all (placed p.core (kept s)) args below (rr 14)
@@ -78,7 +81,8 @@ module _ (p : Setting) (lay : IsLaid p) (f : ℕ) (one : CopiesOne p f) (args : 
       → Leads (length ls) (at segment ps rr m st x y)
       (StandsAt p (At f 1 first [] below) (record r { state = with_params (first + i) (kinds ls) vs s }))
   copies_from [] vs i s all own rr m st y same locals rest stage held code is =
-      subst (λ (c : Course). Leads 0 (at segment ps rr m st c y) (StandsAt p (At f 1 first [] below) (record r { state = s }))) (sym is)
+      subst (λ (c : Course). Leads 0 (at segment ps rr m st c y) (StandsAt p (At f 1 first [] below) (record r { state = s })))
+      (sym is)
       (stands_now p lay 0 f 1 1 first [] [] below (record r { state = s }) all own segment sp ps rr m st y stage low code)
   copies_from (l ∷ ls) [] i s all own rr m st y same locals rest stage held code is = absurd (differ same)
     where
@@ -93,8 +97,10 @@ module _ (p : Setting) (lay : IsLaid p) (f : ℕ) (one : CopiesOne p f) (args : 
       let c = from_do p f (rr 0) (Two Mov (is_char k) (Indexed 14 (word (2 * i))) (ToIndexed 1 (word l.offset)))
       (copies p.ir (function_of p f) (suc i) ls) (step_at p f 1) code in
       let after : State = with_params (first + i + 1) (kinds ls) vs s2 in
-      let moved : with_params (first + suc i) (kinds ls) vs s2 ≡ after = ap (λ (j : ℕ). with_params j (kinds ls) vs s2) (sym step) in
-      one (StandsAt p (At f 1 first [] below) (record r { state = after })) (length ls) i l v args below first s r.next all own segment sp
+      let moved : with_params (first + suc i) (kinds ls) vs s2 ≡ after = ap
+      (λ (j : ℕ). with_params j (kinds ls) vs s2) (sym step) in
+      one (StandsAt p (At f 1 first [] below) (record r { state = after }))
+      (length ls) i l v args below first s r.next all own segment sp
       ps rr m st x y (subst (λ (j : ℕ). slice_get (function_of p f).locals j ≡ Some l) here_is (locals 0 l refl))
       (subst (λ (j : ℕ). slice_get args j ≡ Some v) here_is (rest 0 v refl)) stage held c.0
       (λ all2 own2 m2 st2 y2 stage2 held2.
@@ -137,7 +143,8 @@ copies_all p lay f n one params few args below first r all own segment sp ps rr 
     (StandsAt p (At f 1 first [] below) (record r { state = z }))) same
     (subst (λ (j : ℕ). Leads j (at segment ps rr m st (outside r.state.marks (drop r.used p.readings)) y)
     (StandsAt p (At f 1 first [] below) (record r { state = s2 }))) size
-    (copies_from p lay f one args below first r segment sp ps low (outside r.state.marks (drop r.used p.readings)) ls args 0 r.state all own
+    (copies_from p lay f one args below first r segment sp ps low (outside r.state.marks
+    (drop r.used p.readings)) ls args 0 r.state all own
     rr m st y (count ∙ params ∙ sym size)
     (λ j x e. let z : j ≡ 0 + j = omega arith in
     subst (λ (q : ℕ). slice_get (function_of p f).locals q ≡ Some x) z (take_gets n (function_of p f).locals j x e))

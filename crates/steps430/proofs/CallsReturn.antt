@@ -145,7 +145,8 @@ module _ (p : Setting) (laid : FramesLaid p) (s : State) (next : ℕ) (l : Frame
           settled = come.settled;
           meter = come.meter;
           step = come.step;
-          stage = left_stage p laid s next c cs e h.made all own all2 own2 segment (end + 2) cut l (b ∷ ls) segment sp sp ps ps r _
+          stage = left_stage p laid s next c cs e h.made all own all2 own2 segment (end + 2) cut l
+              (b ∷ ls) segment sp sp ps ps r _
               m come.memory
               st come.settled h stack holds
               (record {
@@ -193,7 +194,8 @@ module _ (p : Setting) (laid : FramesLaid p) (s : State) (next : ℕ) (l : Frame
           settled = come.settled;
           meter = come.meter;
           step = come.step;
-          stage = left_stage p laid s next c cs e h.made all own all2 own2 older (a + 2) cut l (b ∷ ls) (older + 1) sp sp ps ps r _
+          stage = left_stage p laid s next c cs e h.made all own all2 own2 older (a + 2) cut l (b ∷ ls)
+              (older + 1) sp sp ps ps r _
               m come.memory
               st come.settled h stack holds
               (record {
@@ -232,7 +234,8 @@ module _ (p : Setting) (laid : FramesLaid p) (s : State) (next : ℕ) (l : Frame
             by (inr i) =
                 let next_is = i.2.next in
                 subst (λ (g : ℕ). IsLeft p s next (b ∷ ls) ps r marks rest (at g ps r m st (outside marks rest) y)) (sym next_is)
-                (left_below i.0 i.1 b ls c cs e (subst (λ (g : ℕ). Stage p s next (l ∷ b ∷ ls) all own g sp sp ps r m st) next_is h)
+                (left_below i.0 i.1 b ls c cs e (subst
+                (λ (g : ℕ). Stage p s next (l ∷ b ∷ ls) all own g sp sp ps r m st) next_is h)
                 (subst (λ (g : ℕ). ReturnsBelow all own (return_to p (b ∷ ls)) g end i.0 i.1) next_is i.2) i.3 j.1)
 
 -- ---- the end of the run
@@ -260,7 +263,8 @@ module _ (p : Setting) (laid : FramesLaid p) (s : State) (next : ℕ) (l : Frame
             let below = back.below in
             let last = h.ground.last in
             let at_top : end ≡ 8446 = omega arith in
-            let outer : (nat_eq segment 0 && nat_eq end 8446) ≡ true = and-both (eq-eqb segment 0 zero_is) (eq-eqb end 8446 at_top)
+            let outer : (nat_eq segment 0 && nat_eq end 8446) ≡ true = and-both (eq-eqb segment 0 zero_is)
+            (eq-eqb end 8446 at_top)
             in
             let come = leaves p.code p.low p.high segment sp ps h.ground all h.shape r m st (outside s.marks rest) y
             (function_of p l.function).frame end (return_to p [])
@@ -268,7 +272,8 @@ module _ (p : Setting) (laid : FramesLaid p) (s : State) (next : ℕ) (l : Frame
             let all2 : Cells = dropped segment (end + 2) all in
             let own2 : Cells = dropped segment (end + 2) own in
             let cut : IsCut all own all2 own2 segment (end + 2) = cut_dropped all own segment (end + 2) below last h.part in
-            let covered = left_covered p laid s next c [] e h.made all own all2 own2 segment (end + 2) cut segment sp ps tt h.shape
+            let covered = left_covered p laid s next c [] e h.made all own all2 own2 segment
+            (end + 2) cut segment sp ps tt h.shape
             h.part
             h.covered in
             let r2 : ℕ → ℕ = set_reg (set_reg (set_reg r 0 (r 0 + 4)) 0 (return_to p [])) 1 (end + 2) in
@@ -280,7 +285,8 @@ module _ (p : Setting) (laid : FramesLaid p) (s : State) (next : ℕ) (l : Frame
               ended = refl;
               marks = refl;
               taken = readings;
-              matches = matches_by p.core (after_leave s) p.code p.low p.high segment (end + 2) ps r2 come.memory come.settled all2
+              matches = matches_by p.core (after_leave s) p.code p.low p.high segment
+                  (end + 2) ps r2 come.memory come.settled all2
                   own2
                   (s.marks + 1) (outside (s.marks + 1) rest) come.meter (Ended Done) refl h.no_block
                   (shape_dropped segment sp (end + 2) ps all h.shape) come.facts cut.part covered;

@@ -1,10 +1,10 @@
 -- The step that emits a value: one output more, and the end of the run where there is no place for it.
-use Rattle.std.proofs.Common.{◌≡◌, ◌≢◌, ℕ, zero, suc, ◌+◌, ◌-◌, ◌*◌, ◌/◌, ◌%◌, ◌<◌, ◌≤◌, refl, sym, ap, ◌∙◌, subst, arith, Bool, true, false, ◌⊎◌, inl, inr, List, [], ◌∷◌, ◌++◌, length, length-append, reverse, drop, max, Option, Some, None, if◌then◌else◌}
+use Rattle.std.proofs.Common.{◌≡◌, ◌≢◌, ℕ, zero, suc, ◌+◌, ◌*◌, ◌<◌, ◌≤◌, refl, sym, ap, ◌∙◌, subst, arith, Bool, true, false, ◌⊎◌, inl, inr, List, [], ◌∷◌, ◌++◌, length, length-append, reverse, drop, Option, Some, None, if◌then◌else◌}
 use Rattle.std.proofs.Math.Path.{fun_ext}
 use Rattle.std.proofs.lemmas.Bool.{cases_eq}
 use Rattle.std.proofs.lemmas.Bool.Decides.{nat_tests}
 use Rattle.std.specs.Prelude.{ℤ, nat_lt}
-use Rattle.base16.specs.Board.{outputs_start, outputs_end, most_outputs, stack_start, segment_start}
+use Rattle.base16.specs.Board.{outputs_start, outputs_end, stack_start, segment_start}
 use Rattle.base16.specs.Integer.{wrapped}
 use Rattle.base16.specs.declared.end.EndKind.TheVariants.{OutputFull, Done, Wild}
 use Rattle.core430.specs.Registers.{set_reg}
@@ -20,16 +20,16 @@ use Rattle.c_run.specs.Runs.{Run, Outcome, Action, ◌>>=◌, ◌>>◌, and_then
 use Rattle.c_values.specs.declared.state.Call.{Call}
 use Rattle.c_values.specs.declared.state.State.{State}
 use Rattle.c_values.specs.declared.value.Cell.{Cell as Scalar}
-use Rattle.cells430.specs.Cells.{Cell, Word, Cells, set_cell, Live, OfOutput, OfData, OfFrame, OfOlder, Shape, Facts, output_cell, with_outputs}
+use Rattle.cells430.specs.Cells.{Cell, Word, Cells, set_cell, Live, OfOutput, OfData, OfFrame, OfOlder, Shape, Facts, with_outputs}
 use Rattle.cells430.proofs.Cells.{set_cell-same, set_cell-other}
-use Rattle.cells430.proofs.OutputCells.{inside, where_is, outer, place_cell, outputs_shape, put_twice, outputs_after}
+use Rattle.cells430.proofs.OutputCells.{inside, where_is, outer, place_cell, outputs_shape, outputs_after}
 use Rattle.ir.specs.declared.control.Frame.{Frame}
-use Rattle.matching.specs.Covering.{cell_of, HasCell, ScalarsCovered, Covered, WordsCovered, StampsCovered, IsCovered}
+use Rattle.matching.specs.Covering.{ScalarsCovered, Covered, WordsCovered, StampsCovered}
 use Rattle.matching.specs.Matches.{Placed, placed, encoded}
 use Rattle.matching.proofs.Storing.{cell_stays}
 use Rattle.select430.specs.Frames.{temporaries_at}
 use Rattle.steps430.specs.Setting.{Setting, function_of, step_at, IsNamed, operand_bases, IsLaid}
-use Rattle.steps430.specs.Holds.{IsWord, is_defined, temporary_code, IsHeld, AreHeld, CallHolds, Holds}
+use Rattle.steps430.specs.Holds.{is_defined, temporary_code, IsHeld, AreHeld, CallHolds, Holds}
 use Rattle.steps430.specs.Standing.{IsFilled, AreFilled, return_to, IsFrame, ReturnsHere, ReturnsBelow, Stacked, Stage}
 use Rattle.steps430.specs.Outside.{StandBehind, MeetsOutside}
 use Rattle.ir.specs.declared.control.Temporary.{Temporary}

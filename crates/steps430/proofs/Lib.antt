@@ -59,3 +59,4 @@ pub mod Fitting
 pub mod Limits
 pub mod Tests
 pub mod Since
+pub mod Within

@@ -1,5 +1,5 @@
 -- Marks: a stage makes the words match, and behind the service of a mark the run stops at this mark, or goes on.
-use Rattle.std.proofs.Common.{◌≡◌, ℕ, zero, suc, ◌+◌, ◌-◌, ◌%◌, refl, sym, ap, ◌∙◌, subst, arith, Bool, List, drop, Option, Some, None}
+use Rattle.std.proofs.Common.{◌≡◌, ℕ, zero, suc, ◌+◌, ◌-◌, refl, sym, ap, ◌∙◌, subst, List, drop, Option, Some, None}
 use Rattle.core430.specs.Uses.{AreWords, IsWithin}
 use Rattle.ideal430.specs.Ideal.{Ideal, Meter}
 use Rattle.ideal430.specs.Settled.{Bytes}
@@ -9,7 +9,7 @@ use Rattle.c_run.specs.Actions.{kept}
 use Rattle.c_run.specs.Runs.{Run, Stop, Live, Outcome, Went, Stopped, Action, ◌>>=◌, and_then, counted, mark, mark_by}
 use Rattle.c_values.specs.declared.state.Saved.{Saved}
 use Rattle.c_values.specs.declared.state.State.{State}
-use Rattle.cells430.specs.Cells.{Cell, Word, Byte, Cells, CellAt, Fits, Facts}
+use Rattle.cells430.specs.Cells.{Cell, Word, Byte, Cells, Fits, Facts}
 use Rattle.cells430.specs.Stretch.{outside, at, StepsTo, Comes, Leads}
 use Rattle.cells430.proofs.Lift.{leads_now, leads_step}
 use Rattle.ir.specs.declared.control.Frame.{Frame}

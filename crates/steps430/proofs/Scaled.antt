@@ -17,7 +17,10 @@ use Rattle.core430.specs.declared.operand.Place.TheVariants.{InRegister, Given}
 use Rattle.core430.specs.Registers.{set_reg}
 use Rattle.core430.specs.Instructions.{two_status, flagged}
 use Rattle.run430.proofs.Operands.{in_register, to_register, constant as generated}
-use Rattle.rt430.specs.declared.words.Helper.TheVariants.{Mul16}
+use Rattle.run430.specs.Routine.{IsKept}
+use Rattle.rt430.specs.declared.words.Helper.{Helper}
+use Rattle.rt430.specs.declared.words.Helper.TheVariants.{Mul16, Udiv16, Umod16, Sdiv16, Smod16, Shl, Shr, Sar}
+use Rattle.rt430.specs.Routines.{kept_by}
 use Rattle.ideal430.specs.Ideal.{Ideal, Meter}
 use Rattle.ideal430.specs.Settled.{Bytes}
 use Rattle.c_values.specs.Pointers.{scaled as scaled_number}
@@ -91,6 +94,17 @@ pub record Spares (r r2 : ℕ → ℕ) : Type 0 where
 
 pub spares_both : (r r1 r2 : ℕ → ℕ) → Spares r r1 → Spares r1 r2 → Spares r r2
 spares_both r r1 r2 h k = record { nine = k.nine ∙ h.nine; ten = k.ten ∙ h.ten }
+
+-- and so they are behind each routine
+pub helps_spares : (which : Helper) (r r2 : ℕ → ℕ) → IsKept (kept_by which) r r2 → Spares r r2
+helps_spares Mul16 r r2 h = let k = h.1 in record { nine = k.1.1.1.1.1.1.1.1.0; ten = k.1.1.1.1.1.1.1.1.1.0 }
+helps_spares Udiv16 r r2 h = let k = h.1 in record { nine = k.1.1.1.1.1.1.1.1.0; ten = k.1.1.1.1.1.1.1.1.1.0 }
+helps_spares Umod16 r r2 h = let k = h.1 in record { nine = k.1.1.1.1.1.1.1.1.0; ten = k.1.1.1.1.1.1.1.1.1.0 }
+helps_spares Sdiv16 r r2 h = let k = h.1 in record { nine = k.1.1.1.1.1.1.0; ten = k.1.1.1.1.1.1.1.0 }
+helps_spares Smod16 r r2 h = let k = h.1 in record { nine = k.1.1.1.1.1.1.0; ten = k.1.1.1.1.1.1.1.0 }
+helps_spares Shl r r2 h = let k = h.1 in record { nine = k.1.1.1.1.1.1.1.1.1.0; ten = k.1.1.1.1.1.1.1.1.1.1.0 }
+helps_spares Shr r r2 h = let k = h.1 in record { nine = k.1.1.1.1.1.1.1.1.1.0; ten = k.1.1.1.1.1.1.1.1.1.1.0 }
+helps_spares Sar r r2 h = let k = h.1 in record { nine = k.1.1.1.1.1.1.1.1.1.0; ten = k.1.1.1.1.1.1.1.1.1.1.0 }
 
 scaled_is : (minus : Bool) (size : ℕ) → is_short size ≡ false
     → scaled minus size ≡ set (pos (wrapped (factor minus size))) 13 ∷ Helps Mul16 ∷ []

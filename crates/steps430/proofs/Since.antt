@@ -10,7 +10,8 @@ use Rattle.ir.specs.Table.{size, uses_helper}
 use Rattle.steps430.specs.Whole.{Since, begun, no_mark, a_mark, most_of}
 
 -- the step of the last mark left out
-pub since_reaches : (ir : Ir) (rs : List Reading) (c0 : Control) (r0 : Run) (c : Control) (r : Run) (last : Option Site) (made : List Site)
+pub since_reaches : (ir : Ir) (rs : List Reading) (c0 : Control) (r0 : Run) (c : Control) (r : Run) (last : Option Site)
+    (made : List Site)
     → Since ir rs c0 r0 c r last made → Reaches ir rs c0 r0 c r made
 since_reaches ir rs c0 r0 c r last made begun = at_first
 since_reaches ir rs c0 r0 c r last made (no_mark {c = b} {r = q} {made = old} h e same) =
