@@ -82,6 +82,7 @@ fn of_source(
 }
 
 /// The text of the state to which the program of a source comes on the readings of a file after so many marks.
+#[tactic(auto, using(crate::proofs::Lines::few_lines))]
 pub fn answer(
     alloc: Global,
     source: &str,
