@@ -4,6 +4,7 @@
 mod control;
 mod form;
 mod laws;
+mod sizes;
 mod stack;
 
 pub use control::{Control, Frame, Temporary};
@@ -15,4 +16,5 @@ pub use form::{
 pub use laws::{
     bounded_runs_are_runs, ordered_forms_end_within_the_bound, ordered_forms_make_each_step_once,
 };
+pub use sizes::size;
 pub use stack::Stack;
