@@ -1,3 +1,4 @@
 pub mod Emitting
+pub mod Few
 pub mod Grouping
 pub mod Laying

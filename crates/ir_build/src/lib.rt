@@ -5,6 +5,7 @@ mod cases;
 mod choices;
 mod emit;
 mod expressions;
+mod few;
 mod functions;
 mod initialisers;
 mod kinds;

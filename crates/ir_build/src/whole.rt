@@ -1,12 +1,14 @@
 //! The form of a program.
 
-ghost use Rattle.std.specs.Prelude.{◌≡◌, IfOk};
+ghost use Rattle.std.specs.Prelude.{◌≡◌, true, IfOk};
 ghost use Rattle.core_tree.specs.LawfulCore.{LawfulCore};
 ghost use Rattle.c_meaning.specs.After.{main_of};
+ghost use Rattle.ir_build.specs.Few.{have_few_steps};
 ghost use Rattle.ir_gen.specs.Form as spec;
 ghost use Rattle.ir_gen.specs.Plain.{IsPlain};
 ghost use Rattle.ir_gen.specs.Serves.{Serves};
 
+use crate::few::have_few_steps;
 use crate::functions::functions_of;
 use crate::variables::globals_of;
 use base16::{NoMemory, Sequence};
@@ -34,11 +36,15 @@ fn main_number(core: &Core) -> Result<u16, NoMemory>
 
 /// The three-address form of a program, made as its definition says.
 fn form_made(alloc: Global, core: &Core) -> Result<Ir, NoMemory>
-    ensures { IfOk result (λ ir. ir ≡ spec.form_of core.now) }
+    ensures form { IfOk result (λ ir. ir ≡ spec.form_of core.now) }
+    ensures few { IfOk result (λ ir. have_few_steps ir.functions ≡ true) }
 {
     let known = structs_laid(alloc, core.structs.as_slice())?;
     let main = main_number(core)?;
     let functions = functions_of(alloc, core, known.as_slice())?;
+    if !have_few_steps(functions.as_slice()) {
+        return Err(NoMemory);
+    }
     let globals = globals_of(alloc, core, known.as_slice())?;
     Ok(Ir {
         functions,
@@ -48,7 +54,8 @@ fn form_made(alloc: Global, core: &Core) -> Result<Ir, NoMemory>
     })
 }
 
-/// The three-address form of a program. That of a lawful program without annotated statements serves it.
+/// The three-address form of a program. That of a lawful program without annotated statements serves it. No function has 2^32
+/// steps or more.
 ///
 /// # Errors
 /// `NoMemory` if memory runs out, if an object has more than 16,383 bytes, or if a number of the form has more bits
@@ -57,6 +64,7 @@ fn form_made(alloc: Global, core: &Core) -> Result<Ir, NoMemory>
 pub fn generate(alloc: Global, core: &Core) -> Result<Ir, NoMemory>
     ensures form { IfOk result (λ ir. ir ≡ spec.form_of core.now) }
     ensures serves { LawfulCore core.now → IsPlain core.now → IfOk result (λ ir. Serves core.now ir) }
+    ensures few { IfOk result (λ ir. have_few_steps ir.functions ≡ true) }
 {
     forms_serve_lawful_programs();
     form_made(alloc, core)
