@@ -1,10 +1,10 @@
 -- How many steps codes have.
-use Rattle.std.proofs.Common.{◌≡◌, ℕ, ◌+◌, ◌<◌, Bool, true, false, cond, List, [], ◌∷◌, Option, Some, None, length, get_or, drop, map, refl, ap, sym, ◌∙◌, add-one, drop-cons, arith}
+use Rattle.std.proofs.Common.{◌≡◌, ℕ, ◌+◌, ◌<◌, Bool, true, false, cond, List, ◌∷◌, Option, Some, None, length, get_or, drop, map}
+use Rattle.std.proofs.Common.{refl, ap, sym, ◌∙◌, add-one, drop-cons, arith}
 use Rattle.base16.specs.declared.image.Kind.{Kind}
 use Rattle.core_tree.specs.declared.types.Struct.{Struct}
 use Rattle.core_tree.specs.Heights.{capped}
 use Rattle.core_tree.specs.declared.expressions.Expr.{Expr}
-use Rattle.core_tree.specs.declared.expressions.ExprKind.{ExprKind}
 use Rattle.core_tree.specs.declared.expressions.Place.{Place}
 use Rattle.base16.specs.declared.integer.IntType.{IntType}
 use Rattle.base16.specs.declared.operator.BinaryOp.{BinaryOp}
@@ -17,7 +17,8 @@ use Rattle.ir_gen.specs.Code.{Code, Part, Spot}
 use Rattle.ir_build.specs.Emitting.{coded, is_some}
 use Rattle.ir_build.proofs.Equations.{call_is, update_is}
 
-pub next_is : {A : Type 0} (all : List A) (i : ℕ) (x : A) → i < length all → x ≡ get_or all i x → drop i all ≡ x ∷ drop (i + 1) all
+pub next_is : {A : Type 0} (all : List A) (i : ℕ) (x : A) → i < length all → x ≡ get_or all i x
+    → drop i all ≡ x ∷ drop (i + 1) all
 next_is all i x h here = rw (add-one) (drop-cons all i x h) ∙ ap (λ y. y ∷ drop (i + 1) all) (sym here)
 
 pub args_turn : (S : List Struct) (all : List Expr) (i : ℕ) (x : Expr) → i < length all → x ≡ get_or all i x
@@ -40,7 +41,8 @@ call_capped S e function args slice counted total is all counts sums =
     sums ∙ (ap (λ (n : ℕ). capped (n + 2)) known ∙ (twice_capped (c.args_code (map (coded S) args)).size
     ∙ ap (λ (n : ℕ). capped n) (sym (call_size S e function args is))))
 
-pub store_size : (node : ℕ) (q : Option Part) (kind : Kind) (keeps : Keep) → (c.store_local node q kind keeps).size ≡ cond (is_some q) 1 0
+pub store_size : (node : ℕ) (q : Option Part) (kind : Kind) (keeps : Keep)
+    → (c.store_local node q kind keeps).size ≡ cond (is_some q) 1 0
 store_size node None kind keeps = refl
 store_size node (Some q) kind keeps = refl
 
@@ -61,7 +63,8 @@ update_size node s kind o value true false = local_size node s.part kind o value
 updated : (S : List Struct) (e : Expr) (o : BinaryOp) (t : Option IntType) (p : Place) (v : Expr) (old marked : Bool)
     → e.kind ≡ k.Update o t p v old marked
     → (c.expr S e).size
-    ≡ cond marked ((c.place S p).code.size + ((c.expr S v).size + 3)) (cond (is_some (c.place S p).part) ((c.expr S v).size + 3) 0)
+    ≡ cond marked ((c.place S p).code.size + ((c.expr S v).size + 3))
+    (cond (is_some (c.place S p).part) ((c.expr S v).size + 3) 0)
 updated S e o t p v old marked is =
     ap (λ (z : Code). z.size) (update_is S e o t p v old marked is)
     ∙ update_size e.node (c.place S p) (kind_of e.ty) (c.update_operation o t (int_type_of v.ty) (stride S (target_of e.ty)))
@@ -73,7 +76,8 @@ three_capped n m = omega arith
 one_capped : (n : ℕ) → capped (capped n + 3) ≡ capped (n + 3)
 one_capped n = omega arith
 
-pub marked_capped : (S : List Struct) (e : Expr) (o : BinaryOp) (t : Option IntType) (p q : Place) (v w : Expr) (old marked : Bool)
+pub marked_capped : (S : List Struct) (e : Expr) (o : BinaryOp) (t : Option IntType) (p q : Place) (v w : Expr)
+    (old marked : Bool)
     (placed valued both total : ℕ) → e.kind ≡ k.Update o t p v old marked → marked ≡ true → q ≡ p → w ≡ v
     → placed ≡ capped (c.place S q).code.size → valued ≡ capped (c.expr S w).size → both ≡ capped (placed + valued)
     → total ≡ capped (both + 3) → total ≡ capped (c.expr S e).size
@@ -81,7 +85,8 @@ marked_capped S e o t p q v w old marked placed valued both total is on at by pl
     let a = (c.place S p).code.size in
     let b = (c.expr S v).size in
     let size : (c.expr S e).size ≡ a + (b + 3) =
-    updated S e o t p v old marked is ∙ ap (λ (m : Bool). cond m (a + (b + 3)) (cond (is_some (c.place S p).part) (b + 3) 0)) on in
+    updated S e o t p v old marked is ∙ ap (λ (m : Bool). cond m (a + (b + 3)) (cond (is_some (c.place S p).part) (b + 3) 0))
+    on in
     let first : placed ≡ capped a = places ∙ ap (λ (x : Place). capped (c.place S x).code.size) at in
     let second : valued ≡ capped b = values ∙ ap (λ (x : Expr). capped (c.expr S x).size) by in
     all

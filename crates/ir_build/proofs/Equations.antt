@@ -1,7 +1,6 @@
 -- The code of a call, from the codes of its arguments.
 use Rattle.std.proofs.Common.{◌≡◌, ℕ, List, [], ◌∷◌, ◌++◌, Bool, true, Option, map, length, ap, ◌∙◌, rules}
 use Rattle.std.proofs.lemmas.List.{length-map}
-use Rattle.core_tree.specs.declared.types.Ty.{Ty}
 use Rattle.core_tree.specs.declared.types.Struct.{Struct}
 use Rattle.core_tree.specs.declared.expressions.Expr.{Expr}
 use Rattle.core_tree.specs.declared.expressions.Place.{Place}
@@ -36,7 +35,8 @@ module _ (layer : ExprKind-F c.Layer c.PlaceLayer Coded Spotted → c.Layer)
       ≡ layer (ExprKind-F.Update o t (record { ty = p.ty; spot = place_by p.kind p.ty p.node }) (coded_by v) old marked)
   fold-Update o t p v old marked = search (rules, the_lemmas)
 
-  fold-Call : (function : ℕ) (args : List Expr) → kind_by (k.Call function args) ≡ layer (ExprKind-F.Call function (map coded_by args))
+  fold-Call : (function : ℕ) (args : List Expr) → kind_by (k.Call function args)
+      ≡ layer (ExprKind-F.Call function (map coded_by args))
   fold-Call function args = search (rules, the_lemmas)
 
 pub call_is : (S : List Struct) (e : Expr) (function : ℕ) (args : List Expr) → e.kind ≡ k.Call function args

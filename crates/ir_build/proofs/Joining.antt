@@ -1,9 +1,10 @@
 -- Steps of a statement that stand one behind the other, put together.
-use Rattle.std.proofs.Common.{◌≡◌, ℕ, ◌+◌, List, [], ◌∷◌, ◌++◌, length, refl, sym, ap, ◌∙◌, subst, arith, append_assoc}
+use Rattle.std.proofs.Common.{◌≡◌, ℕ, ◌+◌, List, [], ◌∷◌, ◌++◌, length, ap, ◌∙◌, arith, append_assoc}
 use Rattle.ir.specs.declared.form.Step.{Step}
 use Rattle.ir.specs.declared.form.StepKind.TheVariants as step
 use Rattle.ir_gen.specs.Code.{Code, at_node}
-use Rattle.ir_gen.specs.Body.{Body, Guard, Part, Grouped, then_body, if_body, loop_body, do_body, no_body, no_part, switch_body, groups_body, groups_at, groups_end, cases, place_of}
+use Rattle.ir_gen.specs.Body.{Body, Guard, Part, Grouped, then_body, if_body, loop_body, do_body, no_body, no_part, switch_body}
+use Rattle.ir_gen.specs.Body.{groups_body, groups_at, groups_end, cases, place_of}
 use Rattle.c_meaning.specs.Statements.{has_default}
 use Rattle.base16.specs.declared.integer.IntType.{IntType}
 use Rattle.ir_build.specs.Grouping.{between, choosing}
@@ -23,12 +24,17 @@ pub loop_made : (node : ℕ) (g : Guard) (body : Body) (part : Part) (brk cont n
     → c3 ≡ between c0 (loop_body node g body part) brk cont
 loop_made node g body part brk cont next end c0 c1 c2 c3 e1 l1 n e e2 l2 e3 =
     e3
-    ∙ ap (λ (z : List Step). z ++ (part.steps (length c2) ++ jump)) (e2 ∙ ap (λ (z : List Step). z ++ body.steps (length c1) end next) e1)
+    ∙ ap (λ (z : List Step). z ++ (part.steps (length c2) ++ jump))
+    (e2 ∙ ap (λ (z : List Step). z ++ body.steps (length c1) end next) e1)
     ∙ three c0 (at_node node step.Turn ∷ g.steps (p + 1) end) (body.steps (length c1) end next) (part.steps (length c2) ++ jump)
-    ∙ ap (λ (m : ℕ). c0 ++ (at_node node step.Turn ∷ (g.steps (p + 1) m ++ (body.steps (length c1) m next ++ (part.steps (length c2) ++ jump))))) e
-    ∙ ap (λ (m : ℕ). c0 ++ (at_node node step.Turn ∷ (g.steps (p + 1) last ++ (body.steps (length c1) last m ++ (part.steps (length c2) ++ jump))))) n
-    ∙ ap (λ (m : ℕ). c0 ++ (at_node node step.Turn ∷ (g.steps (p + 1) last ++ (body.steps m last back ++ (part.steps (length c2) ++ jump))))) l1
-    ∙ ap (λ (m : ℕ). c0 ++ (at_node node step.Turn ∷ (g.steps (p + 1) last ++ (body.steps (p + 1 + g.size) last back ++ (part.steps m ++ jump)))))
+    ∙ ap (λ (m : ℕ). c0 ++ (at_node node step.Turn
+    ∷ (g.steps (p + 1) m ++ (body.steps (length c1) m next ++ (part.steps (length c2) ++ jump))))) e
+    ∙ ap (λ (m : ℕ). c0 ++ (at_node node step.Turn
+    ∷ (g.steps (p + 1) last ++ (body.steps (length c1) last m ++ (part.steps (length c2) ++ jump))))) n
+    ∙ ap (λ (m : ℕ). c0 ++ (at_node node step.Turn
+    ∷ (g.steps (p + 1) last ++ (body.steps m last back ++ (part.steps (length c2) ++ jump))))) l1
+    ∙ ap (λ (m : ℕ). c0 ++ (at_node node step.Turn
+    ∷ (g.steps (p + 1) last ++ (body.steps (p + 1 + g.size) last back ++ (part.steps m ++ jump)))))
     (let z : length c2 ≡ back = omega (arith, l1, l2) in z)
   where
     p : ℕ
@@ -100,7 +106,8 @@ both_sides_made node g one two brk cont other end c0 c1 c2 c3 c4 e1 l1 o e e2 l2
     ∙ three c0 (g.steps p other) (one.steps (length c1) brk cont) (at_node node (step.Jump end) ∷ two.steps (length c3) brk cont)
     ∙ ap (λ (m : ℕ). c0 ++ (g.steps p m
     ++ (one.steps (length c1) brk cont ++ (at_node node (step.Jump end) ∷ two.steps (length c3) brk cont)))) o
-    ∙ ap (λ (m : ℕ). c0 ++ (g.steps p to ++ (one.steps m brk cont ++ (at_node node (step.Jump end) ∷ two.steps (length c3) brk cont)))) l1
+    ∙ ap (λ (m : ℕ). c0 ++ (g.steps p to ++ (one.steps m brk cont
+    ++ (at_node node (step.Jump end) ∷ two.steps (length c3) brk cont)))) l1
     ∙ ap (λ (m : ℕ). c0 ++ (g.steps p to
     ++ (one.steps (p + g.size) brk cont ++ (at_node node (step.Jump m) ∷ two.steps (length c3) brk cont))))
     (let z : end ≡ to + two.size = omega (arith, e, o) in z)
@@ -124,7 +131,8 @@ switch_made node t on groups brk cont end c0 c1 c2 e1 l1 e e2 =
     ∙ append_assoc c0 (choosing node t on groups p) (rest (length c1) end)
     ∙ ap (λ (z : List Step). c0 ++ z) (inner (rest (length c1) end))
     ∙ ap (λ (m : ℕ). c0 ++ (on.steps p 0 ++ (cases node t (groups_at p on groups) groups ++ (drops ++ rest m end)))) l1
-    ∙ ap (λ (m : ℕ). c0 ++ (on.steps p 0 ++ (cases node t (groups_at p on groups) groups ++ (drops ++ rest (groups_at p on groups) m)))) e
+    ∙ ap (λ (m : ℕ). c0 ++ (on.steps p 0 ++ (cases node t (groups_at p on groups) groups
+    ++ (drops ++ rest (groups_at p on groups) m)))) e
   where
     p : ℕ
     p = length c0

@@ -1,5 +1,6 @@
 -- The steps of a `for` and of the groups of a `switch`, put together as they are written.
-use Rattle.std.proofs.Common.{◌≡◌, ℕ, ◌+◌, ◌<◌, List, [], ◌∷◌, ◌++◌, Option, Some, None, length, get_or, drop, map, refl, sym, ap, ◌∙◌, arith, append_assoc, append-nil}
+use Rattle.std.proofs.Common.{◌≡◌, ℕ, ◌+◌, ◌<◌, List, [], ◌∷◌, ◌++◌, Option, Some, None, length, get_or, drop, map, sym, ap, ◌∙◌}
+use Rattle.std.proofs.Common.{arith, append_assoc, append-nil}
 use Rattle.core_tree.specs.declared.types.Slot.{Slot}
 use Rattle.core_tree.specs.declared.types.Struct.{Struct}
 use Rattle.core_tree.specs.declared.expressions.Expr.{Expr}
@@ -23,7 +24,8 @@ module _ (S : List Struct) (O : List (List Slot)) where
       → c1 ≡ c0 ++ (at_node s.node step.Turn ∷ (b.optional_guard S O s.node test).steps (length c0 + 1) end)
       → length c1 ≡ length c0 + 1 + (b.optional_guard S O s.node test).size
       → next ≡ length c0 + 1 + (b.optional_guard S O s.node test).size + (b.stmt S O b1).size
-      → end ≡ length c0 + 1 + (b.optional_guard S O s.node test).size + (b.stmt S O b1).size + (b.optional_part S O s.node part).size + 1
+      → end ≡ length c0 + 1 + (b.optional_guard S O s.node test).size + (b.stmt S O b1).size
+      + (b.optional_part S O s.node part).size + 1
       → c2 ≡ between c1 (b.stmt S O b2) end next → length c2 ≡ length c1 + (b.stmt S O b2).size
       → c3 ≡ c2 ++ ((b.optional_part S O s.node part).steps (length c2) ++ (at_node s.node (step.Jump turn) ∷ []))
       → c3 ≡ between c0 (for_loop S O s test part body) brk cont
@@ -84,5 +86,6 @@ module _ (S : List Struct) (O : List (List Slot)) where
   groups_sized all i x body whole before after h here inside so_far e =
       let rest = (b.groups_body (map (grouped S O) (drop (i + 1) all))).size in
       let turn = groups_size_turn S O all i x h here in
-      let own : (b.stmts S O body).size ≡ (b.stmts S O (out-Group x).body).size = ap (λ (ss : List Stmt). (b.stmts S O ss).size) inside in
+      let own : (b.stmts S O body).size ≡ (b.stmts S O (out-Group x).body).size =
+      ap (λ (ss : List Stmt). (b.stmts S O ss).size) inside in
       omega (arith, so_far, turn, own, e)

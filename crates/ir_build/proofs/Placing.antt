@@ -1,5 +1,6 @@
 -- The parameters and locals of a function, and the variables of a program, one after the other.
-use Rattle.std.proofs.Common.{◌≡◌, ℕ, zero, suc, ◌+◌, ◌<◌, ◌≤◌, ◌%◌, min, List, [], ◌∷◌, ◌++◌, length, get_or, drop, take, map, slice_get, Some, None, refl, ap, sym, ◌∙◌, subst, arith, append_assoc, length-append, add-one}
+use Rattle.std.proofs.Common.{◌≡◌, ℕ, zero, suc, ◌+◌, ◌<◌, ◌≤◌, min, List, [], ◌∷◌, ◌++◌, length, get_or, drop, take, map}
+use Rattle.std.proofs.Common.{slice_get, Some, refl, ap, sym, ◌∙◌, arith, append_assoc, length-append, add-one}
 use Rattle.std.proofs.lemmas.List.{append-nil, map-append, length-map}
 use Rattle.std.proofs.lemmas.Grind.{common_steps}
 use Rattle.core_tree.specs.declared.types.Ty.{Ty}
@@ -10,8 +11,8 @@ use Rattle.core_tree.specs.declared.program.Function.{Function}
 use Rattle.core_tree.specs.declared.program.Global.{Global}
 use Rattle.core_tree.specs.declared.program.Initial.{Initial}
 use Rattle.core_tree.specs.Layout.{Layout, layout, aligned, nothing, start_of, with_member, with_members}
-use Rattle.core_tree.specs.Heights.{local_offset, object_layouts, frame_bytes, told_frame, of_function, capped, most}
-use Rattle.core_tree.specs.Data.{global_address, global_layouts, told_address}
+use Rattle.core_tree.specs.Heights.{local_offset, object_layouts, frame_bytes, told_frame, of_function, capped}
+use Rattle.core_tree.specs.Data.{global_address, told_address}
 use Rattle.base16.specs.Board.{data_start}
 use Rattle.core_layout.specs.Laid.{layout_of}
 use Rattle.core_layout.specs.declared.layouts.Laid.{Laid}
@@ -44,7 +45,8 @@ front_of (l ∷ ls) more = ap (λ (xs : List Layout). l ∷ xs) (front_of ls mor
 start_at : (row more : List Layout) (m : Layout)
     → start_of (row ++ m ∷ more) (length row) ≡ aligned m.even (with_members nothing row).size
 start_at row more m =
-    ap (λ (l : Layout). aligned l.even (with_members nothing (take (length row) (row ++ m ∷ more))).size) (read_at row more m nothing)
+    ap (λ (l : Layout). aligned l.even (with_members nothing (take (length row) (row ++ m ∷ more))).size)
+    (read_at row more m nothing)
     ∙ ap (λ (ls : List Layout). aligned m.even (with_members nothing ls).size) (front_of row (m ∷ more))
 
 module _ {A : Type 0} (f : A → Layout) where
@@ -147,7 +149,8 @@ module _ (core : Core) where
   globals_behind before (g ∷ gs) e =
       let S = core.structs in
       let bytes = (with_members nothing (map (λ (g : Global). layout S g.ty) before)).size in
-      let start : global_address core (length before) ≡ data_start + aligned (layout S g.ty).even bytes = address core before gs g e in
+      let start : global_address core (length before) ≡ data_start + aligned (layout S g.ty).even bytes =
+      address core before gs g e in
       let more : globals_from core (length (before ++ g ∷ [])) gs
       ≡ variables_from S (with_members nothing (map (λ (g : Global). layout S g.ty) (before ++ g ∷ []))).size gs =
       globals_behind (before ++ g ∷ []) gs (e ∙ sym (append_assoc before (g ∷ []) gs)) in

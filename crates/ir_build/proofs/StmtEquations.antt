@@ -28,7 +28,8 @@ module _ (layer : StmtKind-F (ℕ → Body) Grouped Body → ℕ → Body) (grou
   fold-Block : (all : List Stmt) → kind_by (k.Block all) ≡ layer (StmtKind-F.Block (map stmt_by all))
   fold-Block all = search (rules, the_lemmas)
 
-  fold-Switch : (on : Expr) (groups : List Group) → kind_by (k.Switch on groups) ≡ layer (StmtKind-F.Switch on (map group_by groups))
+  fold-Switch : (on : Expr) (groups : List Group) → kind_by (k.Switch on groups)
+      ≡ layer (StmtKind-F.Switch on (map group_by groups))
   fold-Switch on groups = search (rules, the_lemmas)
 
   fold-For-None : (test part : Option Expr) (body : Stmt)
@@ -49,7 +50,8 @@ module _ (S : List Struct) (O : List (List Slot)) where
   pub block_is : (s : Stmt) (all : List Stmt) → s.kind ≡ k.Block all → b.stmt S O s ≡ b.stmts S O all
   block_is s all is =
       ap (λ (kind : StmtKind). b.stmt_kind S O kind s.node) is
-      ∙ ap (λ (l : ℕ → Body). l s.node) (fold-Block (b.stmt_layer S O) (λ g. record { labels = g.labels; body = b.bodies g.body }) all)
+      ∙ ap (λ (l : ℕ → Body). l s.node) (fold-Block (b.stmt_layer S O)
+      (λ g. record { labels = g.labels; body = b.bodies g.body }) all)
 
   pub switch_is : (s : Stmt) (on : Expr) (groups : List Group) → s.kind ≡ k.Switch on groups
       → b.stmt S O s ≡ b.switch_body s.node (int_type_of on.ty) (c.expr S on) (map (grouped S O) groups)

@@ -1,5 +1,6 @@
 -- Parts of statements one after another: the first of them, and those behind it.
-use Rattle.std.proofs.Common.{◌≡◌, ℕ, suc, ◌+◌, ◌<◌, ◌≤◌, Bool, true, false, List, [], ◌∷◌, ◌++◌, ◌≢◌, Option, Some, None, length, get_or, drop, map, refl, ap, sym, ◌∙◌, cond, arith, append_assoc}
+use Rattle.std.proofs.Common.{◌≡◌, ℕ, ◌+◌, ◌<◌, ◌≤◌, Bool, false, List, [], ◌∷◌, ◌++◌, ◌≢◌, Option, Some, None, length, get_or}
+use Rattle.std.proofs.Common.{drop, map, refl, ap, sym, ◌∙◌, cond, arith, append_assoc}
 use Rattle.std.specs.Prelude.{ℤ}
 use Rattle.std.proofs.lemmas.List.{get_or_past, get_or_default}
 use Rattle.base16.specs.declared.image.Kind.TheVariants as kind
@@ -107,7 +108,8 @@ module _ (S : List Struct) (O : List (List Slot)) where
   -- ---- groups
 
   abbrev with_group : {B : Type 0} → (List Grouped → B) → Group → List Group → B
-  with_group f x more = f (record { labels = (out-Group x).labels; body = b.stmts S O (out-Group x).body } ∷ map (grouped S O) more)
+  with_group f x more = f (record { labels = (out-Group x).labels; body = b.stmts S O (out-Group x).body }
+      ∷ map (grouped S O) more)
 
   groups_turn : {B : Type 0} (f : List Grouped → B) (all : List Group) (i : ℕ) (x : Group) → i < length all → x ≡ get_or all i x
       → f (map (grouped S O) (drop i all)) ≡ with_group f x (drop (i + 1) all)

@@ -1,5 +1,6 @@
 -- The steps of updates, whichever value they give, and of calls.
-use Rattle.std.proofs.Common.{◌≡◌, sym, ◌∙◌, append_assoc, ℕ, ◌+◌, ◌<◌, Bool, true, false, List, [], ◌∷◌, ◌++◌, Some, length, get_or, drop, map, refl, ap, arith}
+use Rattle.std.proofs.Common.{◌≡◌, sym, ◌∙◌, append_assoc, ℕ, ◌+◌, ◌<◌, Bool, true, false, List, ◌∷◌, ◌++◌, Some, length, get_or}
+use Rattle.std.proofs.Common.{drop, map, refl, ap, arith}
 use Rattle.base16.specs.declared.image.Kind.{Kind}
 use Rattle.core_tree.specs.declared.types.Struct.{Struct}
 use Rattle.core_tree.specs.declared.expressions.Expr.{Expr}
@@ -48,7 +49,8 @@ local_size node q k o value true = omega arith
 pub args_steps_turn : (S : List Struct) (all : List Expr) (i : ℕ) (x : Expr) (p d : ℕ) → i < length all → x ≡ get_or all i x
     → (c.args_code (map (coded S) (drop i all))).steps p d
     ≡ (c.expr S x).steps p d ++ (c.args_code (map (coded S) (drop (i + 1) all))).steps (p + (c.expr S x).size) (d + 1)
-args_steps_turn S all i x p d h here = ap (λ (xs : List Expr). (c.args_code (map (coded S) xs)).steps p d) (next_is all i x h here)
+args_steps_turn S all i x p d h here = ap (λ (xs : List Expr). (c.args_code (map (coded S) xs)).steps p d)
+    (next_is all i x h here)
 
 -- ---- a call behind its arguments
 

@@ -66,8 +66,10 @@ pub fn case_steps(
     start: u32,
     groups: &[Group],
 ) -> Result<(), NoMemory>
-    ensures steps { OnOk result (code.new ≡ code.old ++ spec.cases node of start (map (grouped structs.now objects.now) groups.now)) }
-    ensures size { OnOk result (length code.new ≡ length code.old + spec.case_count (map (grouped structs.now objects.now) groups.now)) }
+    ensures steps { OnOk result (code.new
+        ≡ code.old ++ spec.cases node of start (map (grouped structs.now objects.now) groups.now)) }
+    ensures size { OnOk result (length code.new
+        ≡ length code.old + spec.case_count (map (grouped structs.now objects.now) groups.now)) }
 {
     let mut to = start;
     for group in groups {

@@ -56,7 +56,8 @@ pub fn put_and(
     depth: u32,
 ) -> Result<u32, NoMemory>
     ensures steps { IfOk result (λ end. code.new
-        ≡ code.old ++ one_step node (spec.unless of (length code.old + 1 + ((spec.expr structs.now right.now).size + 1) + 1) depth)) }
+        ≡ code.old
+        ++ one_step node (spec.unless of (length code.old + 1 + ((spec.expr structs.now right.now).size + 1) + 1) depth)) }
     ensures size { IfOk result (λ end. length code.new ≡ length code.old + 1) }
     ensures end { IfOk result (λ end. end ≡ length code.old + 1 + ((spec.expr structs.now right.now).size + 1) + 1 + 1) }
 {

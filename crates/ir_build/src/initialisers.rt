@@ -83,8 +83,13 @@ fn init_steps(
     local: u32,
     init: &Init,
 ) -> Result<(), NoMemory>
-    ensures steps { OnOk result (code.new ≡ code.old ++ (spec.init_value structs.now objects.now node local init.now.offset init.now.marked init.now.value).steps (length code.old)) }
-    ensures size { OnOk result (length code.new ≡ length code.old + (spec.init_value structs.now objects.now node local init.now.offset init.now.marked init.now.value).size) }
+    ensures steps { OnOk result (code.new
+        ≡ code.old
+        ++ (spec.init_value structs.now objects.now node local init.now.offset init.now.marked init.now.value).steps
+        (length code.old)) }
+    ensures size { OnOk result (length code.new
+        ≡ length code.old
+        + (spec.init_value structs.now objects.now node local init.now.offset init.now.marked init.now.value).size) }
 {
     let kind = local_kind(objects, local, init.offset);
     match &init.value {
@@ -112,8 +117,10 @@ fn inits_steps(
     local: u32,
     init: &[Init],
 ) -> Result<(), NoMemory>
-    ensures steps { OnOk result (code.new ≡ code.old ++ (spec.init_parts structs.now objects.now node local init.now).steps (length code.old)) }
-    ensures size { OnOk result (length code.new ≡ length code.old + (spec.init_parts structs.now objects.now node local init.now).size) }
+    ensures steps { OnOk result (code.new
+        ≡ code.old ++ (spec.init_parts structs.now objects.now node local init.now).steps (length code.old)) }
+    ensures size { OnOk result (length code.new
+        ≡ length code.old + (spec.init_parts structs.now objects.now node local init.now).size) }
 {
     for one in init {
         init_steps(code, structs, objects, node, local, one)?;
@@ -131,8 +138,10 @@ pub fn declare_steps(
     local: u32,
     init: &[Init],
 ) -> Result<(), NoMemory>
-    ensures steps { OnOk result (code.new ≡ code.old ++ (spec.declare_part structs.now objects.now node local init.now).steps (length code.old)) }
-    ensures size { OnOk result (length code.new ≡ length code.old + (spec.declare_part structs.now objects.now node local init.now).size) }
+    ensures steps { OnOk result (code.new
+        ≡ code.old ++ (spec.declare_part structs.now objects.now node local init.now).steps (length code.old)) }
+    ensures size { OnOk result (length code.new
+        ≡ length code.old + (spec.declare_part structs.now objects.now node local init.now).size) }
 {
     if init.len() == 0 {
         put(code, node, StepKind::Undefine { local })?;

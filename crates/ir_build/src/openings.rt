@@ -28,10 +28,13 @@ pub fn put_test(
     test: &Expr,
     yes: &Stmt,
 ) -> Result<u32, NoMemory>
-    ensures steps { IfOk result (λ other. code.new ≡ code.old ++ (spec.test_guard structs.now objects.now node test.now).steps (length code.old) other) }
-    ensures size { IfOk result (λ other. length code.new ≡ length code.old + (spec.test_guard structs.now objects.now node test.now).size) }
+    ensures steps { IfOk result (λ other. code.new
+        ≡ code.old ++ (spec.test_guard structs.now objects.now node test.now).steps (length code.old) other) }
+    ensures size { IfOk result (λ other. length code.new
+        ≡ length code.old + (spec.test_guard structs.now objects.now node test.now).size) }
     ensures other { IfOk result (λ other. other
-        ≡ length code.old + (spec.test_guard structs.now objects.now node test.now).size + (spec.stmt structs.now objects.now yes.now).size + 1) }
+        ≡ length code.old + (spec.test_guard structs.now objects.now node test.now).size
+        + (spec.stmt structs.now objects.now yes.now).size + 1) }
 {
     let start = further(
         next_place(code)?,
@@ -73,7 +76,8 @@ pub fn put_turn(
 ) -> Result<(u32, u32), NoMemory>
     ensures steps { IfOk result (λ places. code.new ≡ code.old ++ codes.at_node node step.Turn
         ∷ (spec.test_guard structs.now objects.now node test.now).steps (length code.old + 1) places.1) }
-    ensures size { IfOk result (λ places. length code.new ≡ length code.old + 1 + (spec.test_guard structs.now objects.now node test.now).size) }
+    ensures size { IfOk result (λ places. length code.new
+        ≡ length code.old + 1 + (spec.test_guard structs.now objects.now node test.now).size) }
     ensures next { IfOk result (λ places. places.0 ≡ length code.old + 1
         + (spec.test_guard structs.now objects.now node test.now).size + (spec.stmt structs.now objects.now body.now).size) }
     ensures end { IfOk result (λ places. places.1 ≡ length code.old + 1
@@ -100,7 +104,8 @@ pub fn put_for_turn(
 ) -> Result<(u32, u32), NoMemory>
     ensures steps { IfOk result (λ places. code.new ≡ code.old ++ codes.at_node node step.Turn
         ∷ (spec.optional_guard structs.now objects.now node test.now).steps (length code.old + 1) places.1) }
-    ensures size { IfOk result (λ places. length code.new ≡ length code.old + 1 + (spec.optional_guard structs.now objects.now node test.now).size) }
+    ensures size { IfOk result (λ places. length code.new
+        ≡ length code.old + 1 + (spec.optional_guard structs.now objects.now node test.now).size) }
     ensures next { IfOk result (λ places. places.0 ≡ length code.old + 1
         + (spec.optional_guard structs.now objects.now node test.now).size + (spec.stmt structs.now objects.now body.now).size) }
     ensures end { IfOk result (λ places. places.1 ≡ length code.old + 1
@@ -129,7 +134,8 @@ pub fn put_step(
     ensures steps { OnOk result (code.new ≡ code.old
         ++ ((spec.optional_part structs.now objects.now node part.now).steps (length code.old)
         ++ codes.at_node node (step.Jump turn) ∷ [])) }
-    ensures size { OnOk result (length code.new ≡ length code.old + ((spec.optional_part structs.now objects.now node part.now).size + 1)) }
+    ensures size { OnOk result (length code.new
+        ≡ length code.old + ((spec.optional_part structs.now objects.now node part.now).size + 1)) }
 {
     part_steps(code, structs, objects, node, part)?;
     put(code, node, StepKind::Jump { to: turn })?;
@@ -146,7 +152,8 @@ pub fn put_switch(
     groups: &[Group],
 ) -> Result<u32, NoMemory>
     ensures steps { IfOk result (λ end. code.new ≡ code.old
-        ++ choosing node (layout.int_type_of on.now.ty) (codes.expr structs.now on.now) (map (grouped structs.now objects.now) groups.now) (length code.old)) }
+        ++ choosing node (layout.int_type_of on.now.ty) (codes.expr structs.now on.now)
+        (map (grouped structs.now objects.now) groups.now) (length code.old)) }
     ensures size { IfOk result (λ end. length code.new
         ≡ spec.groups_at (length code.old) (codes.expr structs.now on.now) (map (grouped structs.now objects.now) groups.now)) }
     ensures end { IfOk result (λ end. end

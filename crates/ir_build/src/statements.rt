@@ -282,8 +282,10 @@ fn groups_steps(
     brk: u32,
     cont: u32,
 ) -> Result<(), NoMemory>
-    ensures steps { OnOk result (code.new ≡ between code.old (spec.groups_body (map (grouped structs.now objects.now) groups.now)) brk cont) }
-    ensures size { OnOk result (length code.new ≡ length code.old + (spec.groups_body (map (grouped structs.now objects.now) groups.now)).size) }
+    ensures steps { OnOk result (code.new
+        ≡ between code.old (spec.groups_body (map (grouped structs.now objects.now) groups.now)) brk cont) }
+    ensures size { OnOk result (length code.new
+        ≡ length code.old + (spec.groups_body (map (grouped structs.now objects.now) groups.now)).size) }
 {
     for group in groups {
         stmts_steps(code, structs, objects, group.body.as_slice(), brk, cont)?;

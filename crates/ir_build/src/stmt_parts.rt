@@ -20,8 +20,10 @@ pub fn taken_steps(
     step: StepKind,
     value: &Expr,
 ) -> Result<(), NoMemory>
-    ensures steps { OnOk result (code.new ≡ code.old ++ (spec.taken_by node step (codes.expr structs.now value.now)).steps (length code.old)) }
-    ensures size { OnOk result (length code.new ≡ length code.old + (spec.taken_by node step (codes.expr structs.now value.now)).size) }
+    ensures steps { OnOk result (code.new
+        ≡ code.old ++ (spec.taken_by node step (codes.expr structs.now value.now)).steps (length code.old)) }
+    ensures size { OnOk result (length code.new
+        ≡ length code.old + (spec.taken_by node step (codes.expr structs.now value.now)).size) }
 {
     expr_steps(code, structs, value, 0)?;
     put(code, node, step)?;
@@ -37,8 +39,10 @@ pub fn guard_steps(
     test: &Expr,
     other: u32,
 ) -> Result<(), NoMemory>
-    ensures steps { OnOk result (code.new ≡ code.old ++ (spec.test_guard structs.now objects.now node test.now).steps (length code.old) other) }
-    ensures size { OnOk result (length code.new ≡ length code.old + (spec.test_guard structs.now objects.now node test.now).size) }
+    ensures steps { OnOk result (code.new
+        ≡ code.old ++ (spec.test_guard structs.now objects.now node test.now).steps (length code.old) other) }
+    ensures size { OnOk result (length code.new
+        ≡ length code.old + (spec.test_guard structs.now objects.now node test.now).size) }
 {
     expr_steps(code, structs, test, 0)?;
     put(code, node, unless(int_type_of(&test.ty), other, 0))?;
@@ -54,8 +58,10 @@ pub fn optional_guard_steps(
     test: &Option<Expr>,
     other: u32,
 ) -> Result<(), NoMemory>
-    ensures steps { OnOk result (code.new ≡ code.old ++ (spec.optional_guard structs.now objects.now node test.now).steps (length code.old) other) }
-    ensures size { OnOk result (length code.new ≡ length code.old + (spec.optional_guard structs.now objects.now node test.now).size) }
+    ensures steps { OnOk result (code.new
+        ≡ code.old ++ (spec.optional_guard structs.now objects.now node test.now).steps (length code.old) other) }
+    ensures size { OnOk result (length code.new
+        ≡ length code.old + (spec.optional_guard structs.now objects.now node test.now).size) }
 {
     match test {
         None => Ok(()),
@@ -74,8 +80,10 @@ pub fn part_steps(
     node: u32,
     step: &Option<Expr>,
 ) -> Result<(), NoMemory>
-    ensures steps { OnOk result (code.new ≡ code.old ++ (spec.optional_part structs.now objects.now node step.now).steps (length code.old)) }
-    ensures size { OnOk result (length code.new ≡ length code.old + (spec.optional_part structs.now objects.now node step.now).size) }
+    ensures steps { OnOk result (code.new
+        ≡ code.old ++ (spec.optional_part structs.now objects.now node step.now).steps (length code.old)) }
+    ensures size { OnOk result (length code.new
+        ≡ length code.old + (spec.optional_part structs.now objects.now node step.now).size) }
 {
     match step {
         None => Ok(()),

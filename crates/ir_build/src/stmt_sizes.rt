@@ -48,7 +48,8 @@ fn init_size(
     local: u32,
     init: &Init,
 ) -> u32
-    ensures { result ≡ capped (spec.init_value structs.now objects.now node local init.now.offset init.now.marked init.now.value).size }
+    ensures { result
+        ≡ capped (spec.init_value structs.now objects.now node local init.now.offset init.now.marked init.now.value).size }
 {
     match &init.value {
         None => 1,

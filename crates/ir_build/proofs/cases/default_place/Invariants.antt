@@ -1,4 +1,4 @@
-use Rattle.std.proofs.Common.{◌≡◌, ◌+◌, ◌++◌, length, drop, map}
+use Rattle.std.proofs.Common.{◌≡◌, drop, map}
 use Rattle.ir_gen.specs.Body as spec
 use Rattle.c_meaning.specs.Statements.{has_default}
 use Rattle.ir_build.specs.Grouping.{grouped}

@@ -1,4 +1,4 @@
-use Rattle.std.proofs.Common.{◌≡◌, ◌+◌, ◌++◌, length, drop, map}
+use Rattle.std.proofs.Common.{◌≡◌, ◌+◌, ◌++◌, length, drop}
 use Rattle.ir_gen.specs.Body as spec
 use Rattle.ir_build.proofs.initialisers.inits_steps.Given as goal
 

@@ -20,12 +20,14 @@ for_steps-returns-in_ok-put_step-in-Some-clause-steps t c =
     let n = c.in_ok-next-in-Some in
     let y = c.in_ok-stmt_steps-in-Some-2.ensures in
     for_some_made c.args.structs.now c.args.objects.now c.args.stmt.now x.first c.in-Some.first c.get-in-Some.result.now x.test
-    x.step x.body c.args.brk c.args.cont c.args.code.now c.stmt_steps-in-Some.new.code c.put_step-in-Some.new.code x.is c.in-Some.is
+    x.step x.body c.args.brk c.args.cont c.args.code.now c.stmt_steps-in-Some.new.code c.put_step-in-Some.new.code x.is
+    c.in-Some.is
     c.get-in-Some.ensures f.steps f.size
     (for_ends c.args.structs.now c.args.objects.now c.args.stmt.now x.test x.step x.body c.get-in-Some-2.result.now
     c.get-in-Some-3.result.now c.args.brk c.args.cont c.in_ok-turn-in-Some.turn n.next n.end c.stmt_steps-in-Some.new.code
     c.put_for_turn-in-Some.new.code c.stmt_steps-in-Some-2.new.code c.put_step-in-Some.new.code c.get-in-Some-2.ensures
-    c.get-in-Some-3.ensures c.in_ok-turn-in-Some.ensures n.ensures.steps n.ensures.size n.ensures.next n.ensures.end y.steps y.size
+    c.get-in-Some-3.ensures c.in_ok-turn-in-Some.ensures n.ensures.steps n.ensures.size n.ensures.next n.ensures.end y.steps
+    y.size
     c.in_ok-put_step-in-Some.ensures.steps)
 
 pub groups_steps-loop-group-preserved : goal.groups_steps-loop-group-preserved

@@ -1,4 +1,4 @@
-use Rattle.std.proofs.Common.{◌≡◌, ◌+◌, ◌++◌, length, drop, map}
+use Rattle.std.proofs.Common.{◌≡◌, ◌+◌, length, drop, map}
 use Rattle.ir_gen.specs.Body as spec
 use Rattle.ir_build.specs.Grouping.{between, grouped}
 use Rattle.ir_build.proofs.statements.+stmt.Given as goal

@@ -1,4 +1,4 @@
-use Rattle.std.proofs.Common.{◌≡◌, ◌+◌, ◌≤◌, drop, map}
+use Rattle.std.proofs.Common.{◌≡◌, ◌+◌, ◌≤◌, drop}
 use Rattle.core_tree.specs.Heights.{capped, most}
 use Rattle.ir_gen.specs.Body as spec
 use Rattle.ir_build.proofs.stmt_sizes.label_count.Given as goal

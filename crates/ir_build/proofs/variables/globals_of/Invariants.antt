@@ -1,4 +1,4 @@
-use Rattle.std.proofs.Common.{◌≡◌, ◌++◌, drop, map}
+use Rattle.std.proofs.Common.{◌≡◌, ◌++◌, drop}
 use Rattle.ir_build.specs.Laying.{variables_from}
 use Rattle.ir_build.proofs.variables.globals_of.Given as goal
 
