@@ -16,7 +16,7 @@ use Rattle.cells430.proofs.OutputCells.{where_is, outer, inside, first_cell, eve
 
 -- the machine at the start, as rules speak of it
 pub start_at : (m : ℕ → ℕ) (readings : List Reading) → start_of m readings ≡ at 0 (λ k. 0) start_registers m is_fixed
-    (outside 0 readings) (record { ticks = 0; entries = 0; commits = 0; length = 0; period = 0 })
+    (outside 0 readings) (record { ticks = 0; entries = 0; commits = 0; due_ticks = 0; due_entries = 0; length = 0; period = 0 })
 start_at m readings = refl
 
 pub start_words : AreWords start_registers
@@ -128,7 +128,7 @@ starts code globals readings hi f wc wg top s has =
         settled = is_fixed;
         marks = 0;
         left = readings;
-        meter = record { ticks = 0; entries = 0; commits = 0; length = 0; period = 0 };
+        meter = record { ticks = 0; entries = 0; commits = 0; due_ticks = 0; due_entries = 0; length = 0; period = 0 };
       };
       is = refl;
       stands = record {

@@ -124,13 +124,13 @@ clean-less n t more h = λ k l. elim (waits-or (run k t).status) [
 runs-or : (t : Ideal) → t.status ≡ Running → Waits t.status → ⊥
 runs-or t e w = running-not t.status w e
 
--- A claim of n instructions leads to one of the next, which takes the readings rs.
-pub claim-step : (start : Ideal) (readings rs : List Reading) (n : ℕ) (P Q : Ideal → Type 0)
+-- A claim of n instructions leads to one of the next, which takes the readings rs: of the machine before it and after it.
+pub claim-next : (start : Ideal) (readings rs : List Reading) (n : ℕ) (P : Ideal → Type 0) (Q : Ideal → Ideal → Type 0)
     → ((t : Ideal) → P t → t.status ≡ Running)
     → ((t : Ideal) → t.left ≡ [] → P t → UsesSettled (with_more t rs) → ((next (with_more t rs)).left ≡ [])
-    × Q (next (with_more t rs)))
-    → Claim start readings n P → Claim start (readings ++ rs) (suc n) Q
-claim-step start readings rs n P Q runs step-to claim clean =
+    × Q (with_more t rs) (next (with_more t rs)))
+    → Claim start readings n P → Claim start (readings ++ rs) (suc n) (Q (run n (with_more start (readings ++ rs))))
+claim-next start readings rs n P Q runs step-to claim clean =
     let more : with_more start (readings ++ rs)
     ≡ with_more (with_more start readings) rs = ap (with_left start) (sym (append_assoc start.left readings rs)) in
     let c2 : IsClean (suc n) (with_more (with_more start readings) rs) = subst (IsClean (suc n)) more clean in
@@ -141,9 +141,15 @@ claim-step start readings rs n P Q runs step-to claim clean =
     ≡ with_more t rs = run-more n (with_more start readings) rs (runs-or t (runs t here.1)) in
     let r : UsesSettled (with_more t rs) = subst UsesSettled e (c2 n (omega arith)) in
     let done = step-to t here.0 here.1 r in
-    let f : next (with_more t rs) ≡ run (suc n) (with_more start (readings ++ rs)) = ap next (sym e)
-    ∙ ap (run (suc n)) (sym more) in
-    subst (λ (x : Ideal). (x.left ≡ []) × Q x) f done
+    let f : with_more t rs ≡ run n (with_more start (readings ++ rs)) = sym e ∙ ap (run n) (sym more) in
+    subst (λ (x : Ideal). ((next x).left ≡ []) × Q x (next x)) f done
+
+pub claim-step : (start : Ideal) (readings rs : List Reading) (n : ℕ) (P Q : Ideal → Type 0)
+    → ((t : Ideal) → P t → t.status ≡ Running)
+    → ((t : Ideal) → t.left ≡ [] → P t → UsesSettled (with_more t rs) → ((next (with_more t rs)).left ≡ [])
+    × Q (next (with_more t rs)))
+    → Claim start readings n P → Claim start (readings ++ rs) (suc n) Q
+claim-step start readings rs n P Q runs step-to claim = claim-next start readings rs n P (λ t. Q) runs step-to claim
 
 -- ---- what has no effect
 

@@ -10,7 +10,7 @@ use Rattle.ideal430.specs.declared.service.Ask.{Ask}
 use Rattle.ideal430.specs.declared.service.Ask.TheVariants.{Nothing, Sensor, Clock}
 use Rattle.ideal430.specs.declared.state.IdealEnd.{IdealEnd}
 use Rattle.ideal430.specs.declared.state.IdealEnd.TheVariants.{Running, Ended, NeedsReading}
-use Rattle.ideal430.specs.Costs.{is_noting, effect_ticks, effect_entries, length_after, due_of}
+use Rattle.ideal430.specs.Costs.{is_noting, effect_ticks, effect_entries, commit_ticks, length_after, due_of}
 use Rattle.ideal430.specs.Settled.{Bytes, no_bytes, stores_bytes, settled_after, settled_again}
 use Rattle.core430.specs.Uses.{step_changes}
 
@@ -20,6 +20,9 @@ pub record Meter : Type 0 where
   pub ticks : ℕ
   pub entries : ℕ
   pub commits : ℕ
+  -- up to the last mark that was due, since the one before: the ticks, with those of its commit, and the entries
+  pub due_ticks : ℕ
+  pub due_entries : ℕ
   pub length : ℕ
   pub period : ℕ
 
@@ -90,6 +93,8 @@ meter_after t e = record {
   ticks = if is_due_at t e then 0 else t.meter.ticks + effect_ticks t.segment t.block e;
   entries = if is_due_at t e then 0 else t.meter.entries + effect_entries t.segment e;
   commits = if is_due_at t e then t.meter.commits + 1 else t.meter.commits;
+  due_ticks = if is_due_at t e then t.meter.ticks + effect_ticks t.segment t.block e + commit_ticks else t.meter.due_ticks;
+  due_entries = if is_due_at t e then t.meter.entries + effect_entries t.segment e else t.meter.due_entries;
   length = length_after t.block e t.meter.length;
   period = t.meter.period;
 }

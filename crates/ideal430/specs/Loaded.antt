@@ -43,7 +43,7 @@ start_of m readings = record {
   settled = is_fixed;
   pointers = λ k. 0;
   earlier = [];
-  meter = record { ticks = 0; entries = 0; commits = 0; length = 0; period = 0 };
+  meter = record { ticks = 0; entries = 0; commits = 0; due_ticks = 0; due_entries = 0; length = 0; period = 0 };
 }
 
 -- after so many instructions of an image on these readings

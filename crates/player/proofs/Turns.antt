@@ -142,7 +142,7 @@ stood-claim o n here registers registers1 registers2 work work2 m m1 m2 w w1 w2 
     record { agrees = a.come.agrees; left = taken; status = a.come.runs } in
     let there = stands (served_by n v)
     (follows n registers1 registers2 m1 m2 work work2 w1 w2 answer sv v [] at own) in
-    let alike : CountsAlike v (served_by n v) answer m2 work2 w2 =
+    let alike : CountsAlike v (served_by n v) answer work m2 work2 w2 =
     power _ (counted n registers1 registers2 m1 m2 work work2 w1 w2 answer sv v [] at own a.come.counts) in
     let is : next u ≡ served_by n v = next-running u (Calls n a.s) come.runs a.is in
     subst (λ (x : Ideal). (x.left ≡ []) × HasStood end registers2 work2 m2 w2 x) (sym is)

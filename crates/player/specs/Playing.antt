@@ -109,7 +109,7 @@ pub record Starts (start : Ideal) (o : Origin) : Type 0 where
 -- the machine of a loaded image, whose meter counts by this period
 abbrev pub started : (m : ℕ → ℕ) → (period : ℕ) → Ideal
 started m period = record (start_of m []) {
-  meter = record { ticks = 0; entries = 0; commits = 0; length = 0; period = period };
+  meter = record { ticks = 0; entries = 0; commits = 0; due_ticks = 0; due_entries = 0; length = 0; period = period };
 }
 
 -- a claim for each machine from which the playing may have begun

@@ -1,6 +1,7 @@
 -- The machine counts what the board counts.
-use Rattle.std.proofs.Common.{◌≡◌, ℕ, ◌+◌, ◌-◌, ◌≤◌, Bool, true, false, nat_lt, min, refl, sym, ap, ◌∙◌, subst, arith, Option, Some, None, is_some, List, ◌++◌, if◌then◌else◌}
+use Rattle.std.proofs.Common.{◌≡◌, ℕ, ◌+◌, ◌-◌, ◌<◌, ◌≤◌, Bool, true, false, nat_eq, nat_lt, min, refl, sym, ap, ◌∙◌, subst, arith, Option, Some, None, is_some, List, ◌++◌, if◌then◌else◌}
 use Rattle.std.proofs.lemmas.Bool.Decides.{nat_tests}
+use Rattle.std.specs.Prelude.{IfSome}
 use Rattle.base16.specs.declared.reading.Reading.{Reading}
 use Rattle.world.specs.World.{WorldState}
 use Rattle.core430.specs.Registers.{view_of}
@@ -10,14 +11,14 @@ use Rattle.board_map.specs.declared.work.Work.{Work}
 use Rattle.ideal430.specs.Costs.{due_of, effect_ticks, effect_entries, length_by, is_noting, commit_ticks}
 use Rattle.ideal430.specs.Service.{Block, Effect, BlockChange, Stays, Deed, Refuses, Does, OnDoes, deed_at, ask_at, taken_of}
 use Rattle.ideal430.specs.Settled.{Bytes}
-use Rattle.ideal430.specs.Ideal.{Ideal, doing, with_left, deed_here, ask_here, asking, served, is_due_at}
+use Rattle.ideal430.specs.Ideal.{Meter, Ideal, doing, with_left, deed_here, ask_here, asking, served, is_due_at}
 use Rattle.ideal430.specs.Uses.{uses_at}
 use Rattle.ideal430.specs.Agreement.{Agrees, BlocksAgree}
 use Rattle.ideal430.specs.declared.state.IdealEnd.TheVariants.{Running}
 use Rattle.ideal430.proofs.Along.{blocks-words}
 use Rattle.ideal430.proofs.Deeds.{deed-same, ask-same}
-use Rattle.services.specs.Following.{StandsAt, Counts, CountsAlike}
-use Rattle.services.specs.Serving.{due_at, ticks_at, committed_of, deed_found, ask_found, ended, answer_of, OnCommit, OnPower, OnRefused, committed_in, Passes, Effected, Serves}
+use Rattle.services.specs.Following.{StandsAt, Counts, CountsDue, CountsAlike, ticks_behind, CutsShort}
+use Rattle.services.specs.Serving.{due_at, ticks_at, committed_of, deed_found, ask_found, ended, answer_of, OnCommit, OnPower, OnCut, OnRefused, stores_cut, committed_in, Passes, Effected, Serves}
 use Rattle.services.specs.declared.acting.Committed.{Committed}
 use Rattle.services.specs.declared.serving.Served.{Served}
 use Rattle.services.specs.declared.serving.Served.TheVariants as served_as
@@ -75,6 +76,42 @@ some-due false log = refl
 enough : (left ticks : ℕ) → nat_lt left ticks ≡ false → min left ticks ≡ ticks
 enough left ticks h = let l : ticks ≤ left = grind (arith, nat_tests) in omega arith
 
+due-after : (due : Bool) (since ticks k t2 spent spent2 : ℕ) → since + ticks ≡ spent
+    → spent2 ≡ spent + (k + (if due then commit_ticks else 0)) → (x : ℕ) → x ≡ (if due then ticks + k + commit_ticks else t2)
+    → due ≡ true → since + x ≡ spent2
+due-after true since ticks k t2 spent spent2 h e x f is = omega arith
+due-after false since ticks k t2 spent spent2 h e x f is = cc
+
+logged-after : (due : Bool) (entries n k e2 x : ℕ) → entries ≡ n → x ≡ (if due then entries + k else e2) → due ≡ true
+    → x ≡ n + k
+logged-after true entries n k e2 x h f is = f ∙ ap (λ y. y + k) h
+logged-after false entries n k e2 x h f is = cc
+
+due-counted : (due : Bool) (since log : ℕ) (meter : Meter) (u : WorldState) → (due ≡ true → since + meter.due_ticks ≡ u.spent)
+    → (due ≡ true → meter.due_entries ≡ log) → IfSome (committed_of due log) (CountsDue since meter u)
+due-counted true since log meter u ticks entries = record { ticks = ticks refl; entries = entries refl }
+due-counted false since log meter u ticks entries = tt
+
+-- the ticks behind the commit before, with those of a mark that was due
+behind-after : (due : Bool) (commits number ticks k t2 : ℕ) → commits ≡ number
+    → (if nat_eq (if due then commits + 1 else commits) number then (if due then 0 else ticks + k)
+    else (if due then ticks + k + commit_ticks else t2))
+    ≡ ticks + (k + (if due then commit_ticks else 0))
+behind-after true commits number ticks k t2 h =
+    let other : nat_eq (commits + 1) number ≡ false = grind (arith, nat_tests) in
+    let all : ticks + k + commit_ticks ≡ ticks + (k + commit_ticks) = omega arith in
+    ap (λ b. if b then 0 else ticks + k + commit_ticks) other ∙ all
+behind-after false commits number ticks k t2 h =
+    let same : nat_eq commits number ≡ true = grind (arith, nat_tests) in
+    let all : ticks + k ≡ ticks + (k + 0) = omega arith in
+    ap (λ b. if b then ticks + k else t2) same ∙ all
+
+past-left : (k left spent spent2 : ℕ) → nat_lt left k ≡ true → spent2 ≡ spent + min left k → spent2 < spent + k
+past-left k left spent spent2 h e = let l : left < k = grind (arith, nat_tests) in omega arith
+
+past-since : (k ticks since spent spent2 : ℕ) → spent2 < spent + k → since + ticks ≡ spent → spent2 < since + (ticks + k)
+past-since k ticks since spent spent2 h e = omega arith
+
 length-stays : (b : BlockChange) (notes : Bool) (stores before : ℕ) → b ≡ Stays → notes ≡ false
     → length_by b notes stores before ≡ before
 length-stays b notes stores before e f =
@@ -107,7 +144,7 @@ counts-done : (e : Effect) (due : Bool) (t : Ideal) (rest : List Reading) (m m2 
     → work2.block_length ≡ work.block_length
     → OnCommit (committed_in answer) (count_of m2 ≡ 0) (count_of m2 ≡ count_of m + effect_entries work.segment e)
     → e.block ≡ Stays → t.segment ≡ work.segment → t.block ≡ None → Counts t m work s
-    → CountsAlike t (doing (with_left t rest) (Does e)) answer m2 work2 u
+    → CountsAlike t (doing (with_left t rest) (Does e)) answer work m2 work2 u
 counts-done e due t rest m m2 work work2 s u answer registers2 is committed spent period since commits length entries
     stays seg none c =
     let log = count_of m + effect_entries work.segment e in
@@ -122,6 +159,15 @@ counts-done e due t rest m m2 work work2 s u answer registers2 is committed spen
     let commits2 : (if is_due_at t e then t.meter.commits + 1 else t.meter.commits) ≡
     (if due then t.meter.commits + 1 else t.meter.commits) =
     ap (λ d. if d then t.meter.commits + 1 else t.meter.commits) is in
+    let due_ticks2 : (if is_due_at t e then t.meter.ticks + effect_ticks t.segment t.block e + commit_ticks
+    else t.meter.due_ticks) ≡ (if due then t.meter.ticks + effect_ticks work.segment None e + commit_ticks
+    else t.meter.due_ticks) =
+    ap (λ d. if d then t.meter.ticks + effect_ticks t.segment t.block e + commit_ticks else t.meter.due_ticks) is
+    ∙ ap (λ k. if due then t.meter.ticks + k + commit_ticks else t.meter.due_ticks) (ticks-alike t e work seg none) in
+    let due_entries2 : (if is_due_at t e then t.meter.entries + effect_entries t.segment e else t.meter.due_entries) ≡
+    (if due then t.meter.entries + effect_entries work.segment e else t.meter.due_entries) =
+    ap (λ d. if d then t.meter.entries + effect_entries t.segment e else t.meter.due_entries) is
+    ∙ ap (λ x. if due then t.meter.entries + effect_entries x e else t.meter.due_entries) seg in
     record {
       counts = record {
         ticks = ticks-after due work.since work2.since t.meter.ticks _
@@ -135,6 +181,12 @@ counts-done e due t rest m m2 work work2 s u answer registers2 is committed spen
       };
       commits = commits2 ∙ ap (λ d. if d then t.meter.commits + 1 else t.meter.commits)
           (sym (ap is_some committed ∙ some-due due log));
+      due = subst (λ c. IfSome c (CountsDue work.since (doing (with_left t rest) (Does e)).meter u)) (sym committed)
+          (due-counted due work.since log (doing (with_left t rest) (Does e)).meter u
+          (due-after due work.since t.meter.ticks (effect_ticks work.segment None e) t.meter.due_ticks s.spent u.spent c.ticks
+          spent _ due_ticks2)
+          (logged-after due t.meter.entries (count_of m) (effect_entries work.segment e) t.meter.due_entries _ c.entries
+          due_entries2));
     }
 
 counts-deed : (d : Deed) (t : Ideal) (rest taken : List Reading) (registers registers2 : List ℕ) (m m2 : ℕ → ℕ)
@@ -144,13 +196,13 @@ counts-deed : (d : Deed) (t : Ideal) (rest taken : List Reading) (registers regi
     → OnDoes d (λ e. OnPower answer (Effected e m work s (committed_in answer) registers2 m2 work2 u))
     → OnDoes d (λ e. e.block ≡ Stays) → Passes (min s.left (ticks_at d work s (count_of m))) taken s u
     → t.segment ≡ work.segment → t.block ≡ None → Counts t m work s
-    → OnPower answer (CountsAlike t (doing (with_left t rest) d) answer m2 work2 u)
+    → OnPower answer (CountsAlike t (doing (with_left t rest) d) answer work m2 work2 u)
 counts-deed (Refuses kind) t rest taken registers registers2 m m2 work work2 s u answer is refused effect stays p seg none c =
     let spent : u.spent ≡ s.spent = let h : u.spent ≡ s.spent + min s.left 0 = p.spent in omega arith in
-    subst (λ a. OnPower a (CountsAlike t (doing (with_left t rest) (Refuses kind)) a m2 work2 u)) (sym is)
-    (subst (λ (k : ℕ → ℕ). CountsAlike t (doing (with_left t rest) (Refuses kind)) (served_as.End kind None) k work2 u)
+    subst (λ a. OnPower a (CountsAlike t (doing (with_left t rest) (Refuses kind)) a work m2 work2 u)) (sym is)
+    (subst (λ (k : ℕ → ℕ). CountsAlike t (doing (with_left t rest) (Refuses kind)) (served_as.End kind None) work k work2 u)
     (sym refused.1)
-    (subst (λ w. CountsAlike t (doing (with_left t rest) (Refuses kind)) (served_as.End kind None) m w u) (sym refused.2)
+    (subst (λ w. CountsAlike t (doing (with_left t rest) (Refuses kind)) (served_as.End kind None) work m w u) (sym refused.2)
     (record {
       counts = record {
         ticks = c.ticks ∙ sym spent;
@@ -160,6 +212,7 @@ counts-deed (Refuses kind) t rest taken registers registers2 m m2 work work2 s u
         period = c.period ∙ sym p.period;
       };
       commits = refl;
+      due = tt;
     })))
 counts-deed (Does e) t rest taken registers registers2 m m2 work work2 s u answer is refused effect stays p seg none c =
     by (nat_lt s.left (ticks_at (Does e) work s (count_of m))) refl is
@@ -167,8 +220,8 @@ counts-deed (Does e) t rest taken registers registers2 m m2 work work2 s u answe
     by : (b : Bool) → nat_lt s.left (ticks_at (Does e) work s (count_of m)) ≡ b
         → answer ≡ (if b then served_as.Off else ended e.ends
         (committed_of (due_at e work s (count_of m)) (count_of m + effect_entries work.segment e)))
-        → OnPower answer (CountsAlike t (doing (with_left t rest) (Does e)) answer m2 work2 u)
-    by true f k = subst (λ a. OnPower a (CountsAlike t (doing (with_left t rest) (Does e)) a m2 work2 u)) (sym k) tt
+        → OnPower answer (CountsAlike t (doing (with_left t rest) (Does e)) answer work m2 work2 u)
+    by true f k = subst (λ a. OnPower a (CountsAlike t (doing (with_left t rest) (Does e)) a work m2 work2 u)) (sym k) tt
     by false f k =
         let due = due_at e work s (count_of m) in
         let log = count_of m + effect_entries work.segment e in
@@ -178,7 +231,7 @@ counts-deed (Does e) t rest taken registers registers2 m m2 work work2 s u answe
         ∙ committed-ended e.ends (committed_of due log) in
         let spent : u.spent ≡ s.spent + ticks_at (Does e) work s (count_of m) =
         p.spent ∙ ap (λ n. s.spent + n) (enough s.left (ticks_at (Does e) work s (count_of m)) f) in
-        let done : CountsAlike t (doing (with_left t rest) (Does e)) answer m2 work2 u =
+        let done : CountsAlike t (doing (with_left t rest) (Does e)) answer work m2 work2 u =
         counts-done e due t rest m m2 work work2 s u answer registers2
         (due-alike t e m work s c seg none) committed spent p.period
         (ap (λ (w : Work). w.since) x.work_is) (ap (λ (w : Work). w.commits) x.work_is)
@@ -190,19 +243,83 @@ counts-deed (Does e) t rest taken registers registers2 m m2 work work2 s u answe
         power-out true c answer P k h = subst (λ a. OnPower a P) (sym k) h
         power-out false c answer P k h = subst (λ a. OnPower a P) (sym k) h
 
+-- power fails in it
+cut-deed : (d : Deed) (t : Ideal) (rest taken : List Reading) (m m2 : ℕ → ℕ) (work : Work) (s u : WorldState) (answer : Served)
+    → answer ≡ answer_of d work s (count_of m)
+    → OnDoes d (λ e. OnCut answer (count_of m2 ≡ count_of m + stores_cut work.segment e.stores s.left))
+    → Passes (min s.left (ticks_at d work s (count_of m))) taken s u
+    → t.segment ≡ work.segment → t.block ≡ None → Counts t m work s
+    → OnCut answer (CutsShort t (doing (with_left t rest) d) rest work s m2 u)
+cut-deed (Refuses kind) t rest taken m m2 work s u answer is cut p seg none c =
+    subst (λ a. OnCut a (CutsShort t (doing (with_left t rest) (Refuses kind)) rest work s m2 u)) (sym is) tt
+cut-deed (Does e) t rest taken m m2 work s u answer is cut p seg none c =
+    by (nat_lt s.left (ticks_at (Does e) work s (count_of m))) refl is
+  where
+    ends-uncut : (b : Bool) (c : Option Committed) (P : Type 0) → OnCut (ended b c) P
+    ends-uncut true c P = tt
+    ends-uncut false c P = tt
+
+    by : (b : Bool) → nat_lt s.left (ticks_at (Does e) work s (count_of m)) ≡ b
+        → answer ≡ (if b then served_as.Off else ended e.ends
+        (committed_of (due_at e work s (count_of m)) (count_of m + effect_entries work.segment e)))
+        → OnCut answer (CutsShort t (doing (with_left t rest) (Does e)) rest work s m2 u)
+    by false f k =
+        subst (λ a. OnCut a (CutsShort t (doing (with_left t rest) (Does e)) rest work s m2 u)) (sym k) (ends-uncut e.ends _ _)
+    by true f k =
+        let v = doing (with_left t rest) (Does e) in
+        let due = due_at e work s (count_of m) in
+        let behind : ticks_behind work.commits v.meter ≡ t.meter.ticks + ticks_at (Does e) work s (count_of m) =
+        behind-after (is_due_at t e) t.meter.commits work.commits t.meter.ticks (effect_ticks t.segment t.block e)
+        t.meter.due_ticks c.commits
+        ∙ ap (λ b. t.meter.ticks + (effect_ticks t.segment t.block e + (if b then commit_ticks else 0)))
+        (due-alike t e m work s c seg none)
+        ∙ ap (λ n. t.meter.ticks + (n + (if due then commit_ticks else 0))) (ticks-alike t e work seg none) in
+        let past : u.spent < s.spent + ticks_at (Does e) work s (count_of m) =
+        past-left (ticks_at (Does e) work s (count_of m)) s.left s.spent u.spent f p.spent in
+        let longer : u.spent < work.since + (t.meter.ticks + ticks_at (Does e) work s (count_of m)) =
+        past-since (ticks_at (Does e) work s (count_of m)) t.meter.ticks work.since s.spent u.spent past c.ticks in
+        subst (λ a. OnCut a (CutsShort t v rest work s m2 u)) (sym k) (record {
+          effect = e;
+          is = refl;
+          ticks = subst (λ n. u.spent < work.since + n) (sym behind) longer;
+          valid = subst (λ a. OnCut a (count_of m2 ≡ count_of m + stores_cut work.segment e.stores s.left)) k cut
+              ∙ ap (λ n. n + stores_cut work.segment e.stores s.left) (sym c.entries)
+              ∙ ap (λ n. t.meter.entries + stores_cut n e.stores s.left) (sym seg);
+        })
+
+there-served : (n : ℕ) (registers registers2 : List ℕ) (m m2 : ℕ → ℕ) (work work2 : Work) (s u : WorldState) (answer : Served)
+    (h : Serves n registers m work s answer registers2 m2 work2 u) (t : Ideal) (rest : List Reading)
+    → StandsAt t Running (taken_of (ask_found n registers m work) h.value ++ rest) registers m work
+    → IsWithin (uses_at n t.core.regs t.core.memory t.segment) t.settled
+    → served n t ≡ doing (with_left t rest) (deed_found n h.value registers m work)
+there-served n registers registers2 m m2 work work2 s u answer h t rest stands clean =
+    let a = stands.agrees in
+    ap (asking n t) (ask-is n t registers m work a clean)
+    ∙ asking-taken (ask_found n registers m work) n h.value t rest stands.left h.nothing
+    ∙ ap (doing (with_left t rest)) (deed-is n h.value t registers m work a clean)
+
 pub counted : (n : ℕ) (registers registers2 : List ℕ) (m m2 : ℕ → ℕ) (work work2 : Work) (s u : WorldState) (answer : Served)
     (h : Serves n registers m work s answer registers2 m2 work2 u) (t : Ideal) (rest : List Reading)
     → StandsAt t Running (taken_of (ask_found n registers m work) h.value ++ rest) registers m work
     → IsWithin (uses_at n t.core.regs t.core.memory t.segment) t.settled → Counts t m work s
-    → OnPower answer (CountsAlike t (served n t) answer m2 work2 u)
+    → OnPower answer (CountsAlike t (served n t) answer work m2 work2 u)
 counted n registers registers2 m m2 work work2 s u answer h t rest stands clean c =
     let a = stands.agrees in
-    let there : served n t ≡ doing (with_left t rest) (deed_found n h.value registers m work) =
-    ap (asking n t) (ask-is n t registers m work a clean)
-    ∙ asking-taken (ask_found n registers m work) n h.value t rest stands.left h.nothing
-    ∙ ap (doing (with_left t rest)) (deed-is n h.value t registers m work a clean) in
-    subst (λ v. OnPower answer (CountsAlike t v answer m2 work2 u)) (sym there)
+    subst (λ v. OnPower answer (CountsAlike t v answer work m2 work2 u))
+    (sym (there-served n registers registers2 m m2 work work2 s u answer h t rest stands clean))
     (counts-deed (deed_found n h.value registers m work) t rest
     (taken_of (ask_found n registers m work) h.value) registers registers2
     m m2 work work2 s u answer h.answers h.refused h.effect
     (deed-stays n h.value (view_of registers) m work.segment None) h.passes a.segment_is (closed t.earlier t.block a.block_is) c)
+
+pub cut_short : (n : ℕ) (registers registers2 : List ℕ) (m m2 : ℕ → ℕ) (work work2 : Work) (s u : WorldState) (answer : Served)
+    (h : Serves n registers m work s answer registers2 m2 work2 u) (t : Ideal) (rest : List Reading)
+    → StandsAt t Running (taken_of (ask_found n registers m work) h.value ++ rest) registers m work
+    → IsWithin (uses_at n t.core.regs t.core.memory t.segment) t.settled → Counts t m work s
+    → OnCut answer (CutsShort t (served n t) rest work s m2 u)
+cut_short n registers registers2 m m2 work work2 s u answer h t rest stands clean c =
+    let a = stands.agrees in
+    subst (λ v. OnCut answer (CutsShort t v rest work s m2 u))
+    (sym (there-served n registers registers2 m m2 work work2 s u answer h t rest stands clean))
+    (cut-deed (deed_found n h.value registers m work) t rest (taken_of (ask_found n registers m work) h.value) m m2 work s u
+    answer h.answers h.cut h.passes a.segment_is (closed t.earlier t.block a.block_is) c)
