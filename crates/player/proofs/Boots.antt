@@ -1,9 +1,10 @@
 -- After a boot the board is where the machine is to which its memory recovers.
-use Rattle.std.proofs.Common.{◌≡◌, ℕ, zero, suc, ◌+◌, ◌<◌, ◌≤◌, Bool, true, false, nat_lt, refl, sym, ap, ◌∙◌, subst, arith, Option, Some, None, List, [], ◌++◌, length, slice_index, append-nil, if◌then◌else◌}
+use Rattle.std.proofs.Common.{◌≡◌, ℕ, zero, suc, ◌+◌, ◌<◌, ◌≤◌, Bool, true, false, nat_lt, refl, sym, ap, ◌∙◌, subst, arith, Option, Some, None, List, [], ◌++◌, length, slice_index, append-nil, inl, if◌then◌else◌}
 use Rattle.std.proofs.Math.Path.{fun_ext}
 use Rattle.std.proofs.lemmas.Bool.Decides.{nat_tests}
 use Rattle.std.proofs.lemmas.List.{get_or_past}
 use Rattle.base16.specs.Memory.{words_of}
+use Rattle.board_map.specs.Costs.{boot_cost}
 use Rattle.board_map.specs.Map.{current, count_of}
 use Rattle.board_map.specs.Recovered.{Machine, is_live, recovered}
 use Rattle.board_map.specs.declared.work.Work.{Work}
@@ -17,8 +18,8 @@ use Rattle.services.specs.Following.{Fits}
 use Rattle.world.specs.History.{Attempt, taken_in}
 use Rattle.world.specs.World.{WorldState, Spends}
 use Rattle.world.specs.declared.history.Record.{Record}
-use Rattle.player.specs.Playing.{Origin, marks_of, commits_of, kept_in, story_in, HasRecovered, IsRunning, readings_so_far, now}
-use Rattle.player.specs.Turning.{IsInCycle, OnGoing, Begins, HasCome, Goes, IsCut}
+use Rattle.player.specs.Playing.{Origin, marks_of, commits_of, kept_in, story_in, HasRecovered, IsRunning, OnGoing, readings_so_far, now}
+use Rattle.player.specs.Turning.{IsInCycle, Begins, HasCome, Goes, IsCut}
 use Rattle.player.proofs.Keeping.{claim-map, IsStill, calm-spends, keeps-on}
 
 -- the word of a byte that may count lives
@@ -88,16 +89,22 @@ going-none : (g : Option Attempt) → OnGoing g (λ a. a.readings ≡ []) → ta
 going-none None h = absurd h
 going-none (Some a) h = h
 
-pub boot-goes : (o : Origin) (instrs cost : ℕ) (records : List Record) (f f2 : Contents) (w w2 : WorldState)
-    (registers : List ℕ) (work : Work) → Begins o instrs (now records f w) → IsStill f f2 → Spends cost w w2
+booted-at : (cost at span since left spent2 left2 : ℕ) → at ≡ cost → span ≡ left → since ≡ spent2 → left ≡ left2 + cost
+    → since + span ≡ spent2 + left2 + at
+booted-at cost at span since left spent2 left2 a s e l = omega arith
+
+pub boot-goes : (o : Origin) (instrs : ℕ) (records : List Record) (f f2 : Contents) (w w2 : WorldState)
+    (registers : List ℕ) (work : Work) → Begins o instrs (now records f w) → IsStill f f2
+    → Spends (boot_cost (words_of f.words)) w w2
     → count_of (words_of f2.words) ≡ 0 → work.since ≡ w2.spent → length registers ≡ 16
     → AreRegisters registers (kept_in f) → IsWork work (kept_in f) → IsMemory (words_of f2.words) (kept_in f)
     → Goes o instrs instrs registers work (now records f2 w2)
-boot-goes o instrs cost records f f2 w w2 registers work b still spends none since size regs is memory =
+boot-goes o instrs records f f2 w w2 registers work b still spends none since size regs is memory =
     let k = b.rests.keeps in
+    let cost = boot_cost (words_of f.words) in
     let s = story_in o records in
     let calm = calm-spends cost w w2 spends in
-    let on = keeps-on o (IsInCycle o records) IsRunning records f f2 w w2 still calm k.form_is.1 k in
+    let on = keeps-on o (IsInCycle o records) IsRunning b.cursor records f f2 w w2 still calm k.form_is.1 k in
     let length_is : work.block_length ≡ 0 = is.block_length ∙ k.shut.length in
     let none_open : work.block_open ≡ false = closed-by work.block_open (is.block_open ∙ k.shut.block) in
     let marks : work.marks ≡ marks_of (kept_in f) = is.marks in
@@ -106,7 +113,10 @@ boot-goes o instrs cost records f f2 w w2 registers work b still spends none sin
     ∙ append-nil s.last.readings in
     let made : s.last.instrs ≡ instrs = b.rests.instrs_are in
     record {
+      cursor = b.cursor;
       rests = record { keeps = on; instrs_are = b.rests.instrs_are };
+      since = booted-at cost b.cursor.at b.cursor.span work.since w.left w2.spent w2.left b.at b.span since spends.left;
+      later = omega (arith, since);
       going = going-any s.going b.going;
       ready = record {
         segment = is.segment ∙ sym (ap (λ (r : Machine). r.state 0) still.recovered);
@@ -127,15 +137,30 @@ boot-goes o instrs cost records f f2 w w2 registers work b still spends none sin
           (calm.period ∙ k.period)) (k.machine start t)));
     }
 
+cut-before : (left cost span at : ℕ) → left < cost → span ≡ left → at ≡ cost → span < at
+cut-before left cost span at few s a = omega arith
+
 -- a boot that was cut
 pub boot-cut : (o : Origin) (instrs : ℕ) (records : List Record) (f f2 : Contents) (w w2 : WorldState)
-    → Begins o instrs (now records f w) → IsStill f f2 → w2.left ≡ 0 → Spends w.left w w2 → IsCut o instrs (now records f2 w2)
-boot-cut o instrs records f f2 w w2 b still none spends =
+    → Begins o instrs (now records f w) → IsStill f f2 → count_of (words_of f2.words) ≡ count_of (words_of f.words)
+    → w.left < boot_cost (words_of f.words) → w2.left ≡ 0 → Spends w.left w w2 → IsCut o instrs (now records f2 w2)
+boot-cut o instrs records f f2 w w2 b still same few none spends =
     let k = b.rests.keeps in
     record {
+      cursor = b.cursor;
       rests = record {
-        keeps = keeps-on o (IsInCycle o records) IsRunning records f f2 w w2 still (calm-spends w.left w w2 spends) k.form_is.1 k;
+        keeps = keeps-on o (IsInCycle o records) IsRunning b.cursor records f f2 w w2 still (calm-spends w.left w w2 spends)
+            k.form_is.1 k;
         instrs_are = b.rests.instrs_are;
       };
       none = none;
+      off = record {
+        behind = refl;
+        fits = still.well_formed.count;
+        how = inl (record {
+          within = cut-before w.left (boot_cost (words_of f.words)) b.cursor.span b.cursor.at few b.span b.at;
+          none = b.going;
+          same = same ∙ b.valid;
+        });
+      };
     }

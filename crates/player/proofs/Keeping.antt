@@ -17,6 +17,7 @@ use Rattle.world.specs.declared.history.Record.TheVariants.{Read, Commit}
 use Rattle.world.specs.declared.history.Shown.{Shown}
 use Rattle.player.specs.Form.{Phase, phase_after, cycles_in, read_in, reads_of}
 use Rattle.player.specs.Playing.{Origin, marks_of, commits_of, kept_in, shown_in, shown_with, added_in, story_in, IsFresh, HasRecovered, IsAny, Always, left_of, Powers, IsShut, IsPrinted, IsRight, readings_so_far, Moment, now, Keeps}
+use Rattle.player.specs.Ticks.{Cursor, committed}
 use Rattle.player.specs.Turning.{IsInCycle, read_records}
 use Rattle.player.proofs.Records.{cycles-more, in_cycle-more, adds-more, story-more, phase-more, reads-more, right-more, IsQuiet, quiet-last, quiet-earlier}
 use Rattle.player.proofs.Showing.{Leads, agrees-shows}
@@ -80,22 +81,21 @@ ticks-calm : (begun : List ℕ) (before spent left spent2 left2 : ℕ) → 0 < l
 ticks-calm [] before spent left spent2 left2 some e h = absurd (omega arith)
 ticks-calm (x ∷ rest) before spent left spent2 left2 some e h = e ∙ h
 
-pub powers-calm : (o : Origin) (records : List Record) (w w2 : WorldState) → cycles_in o.records < cycles_in records → Calm w w2
-    → Powers o records w → Powers o records w2
-powers-calm o records w w2 some c p =
-    let n : cycles_in records ≡ cycles_in o.records + length p.begun = p.counted in
+pub powers-calm : (o : Origin) (begun : List ℕ) (records : List Record) (w w2 : WorldState)
+    → cycles_in o.records < cycles_in records → Calm w w2 → Powers o begun records w → Powers o begun records w2
+powers-calm o begun records w w2 some c p =
+    let n : cycles_in records ≡ cycles_in o.records + length begun = p.counted in
     record {
-      begun = p.begun;
       spans = c.spans ∙ p.spans;
-      ticks = ticks-calm p.begun o.world.spent w.spent w.left w2.spent w2.left (omega arith) c.whole p.ticks;
-      cycles = ap (λ k. k + length p.begun) c.cycles ∙ p.cycles;
+      ticks = ticks-calm begun o.world.spent w.spent w.left w2.spent w2.left (omega arith) c.whole p.ticks;
+      cycles = ap (λ k. k + length begun) c.cycles ∙ p.cycles;
       counted = p.counted;
     }
 
-pub keeps-on : (o : Origin) (form : Phase → Type 0) (S : IdealEnd → Type 0) (records : List Record) (f f2 : Contents)
+pub keeps-on : (o : Origin) (form : Phase → Type 0) (S : IdealEnd → Type 0) (c : Cursor) (records : List Record) (f f2 : Contents)
     (w w2 : WorldState) → IsStill f f2 → Calm w w2 → cycles_in o.records < cycles_in records
-    → Keeps o form S (now records f w) → Keeps o form S (now records f2 w2)
-keeps-on o form S records f f2 w w2 still calm some k =
+    → Keeps o form S c (now records f w) → Keeps o form S c (now records f2 w2)
+keeps-on o form S c records f f2 w w2 still calm some k =
     let m = words_of f.words in
     let m2 = words_of f2.words in
     let later : w.spent ≤ w2.spent = calm.later in
@@ -103,8 +103,8 @@ keeps-on o form S records f f2 w w2 still calm some k =
       added = k.added;
       form_is = k.form_is;
       reads = calm.readings ∙ k.reads;
-      power = powers-calm o records w w2 some calm k.power;
-      commits = k.commits;
+      power = powers-calm o c.begun records w w2 some calm k.power;
+      right = k.right;
       number = k.number ∙ sym (ap commits_of still.recovered);
       marks = k.marks ∙ sym (ap marks_of still.recovered);
       shown = subst (λ (x : Machine). ShowsSame (story_in o records).last.display (display_of o.scalars x.memory))
@@ -126,12 +126,12 @@ keeps-on o form S records f f2 w w2 still calm some k =
 
 -- ---- a record that is no commit
 
-pub keeps-push : (o : Origin) (form form2 : Phase → Type 0) (S : IdealEnd → Type 0) (records : List Record) (x : Record)
-    (f : Contents) (w w2 : WorldState) → IsQuiet x → IsRight o (story_in o records) x
+pub keeps-push : (o : Origin) (form form2 : Phase → Type 0) (S : IdealEnd → Type 0) (c d : Cursor) (records : List Record)
+    (x : Record) (f : Contents) (w w2 : WorldState) → IsQuiet x → IsRight o (story_in o records) c x d
     → ((p : Phase) → form p → form2 (phase_after p x))
-    → w2.readings ≡ w.readings ++ read_in x → Powers o (records ++ x ∷ []) w2 → w.spent ≤ w2.spent → w2.period ≡ w.period
-    → Keeps o form S (now records f w) → Keeps o form2 S (now (records ++ x ∷ []) f w2)
-keeps-push o form form2 S records x f w w2 quiet right goes reads power later period k =
+    → w2.readings ≡ w.readings ++ read_in x → Powers o d.begun (records ++ x ∷ []) w2 → w.spent ≤ w2.spent
+    → w2.period ≡ w.period → Keeps o form S c (now records f w) → Keeps o form2 S d (now (records ++ x ∷ []) f w2)
+keeps-push o form form2 S c d records x f w w2 quiet right goes reads power later period k =
     let s = story_in o records in
     let last : (story_in o (records ++ x ∷ [])).last ≡ s.last = ap (λ (v : Story). v.last) (story-more o records x k.added)
     ∙ quiet-last s x quiet in
@@ -143,7 +143,7 @@ keeps-push o form form2 S records x f w w2 quiet right goes reads power later pe
       reads = reads ∙ ap (λ r. r ++ read_in x) k.reads ∙ append_assoc o.world.readings (reads_of (added_in o records)) (read_in x)
           ∙ ap (λ r. o.world.readings ++ r) (sym (reads-more o records x k.added));
       power = power;
-      commits = right-more o records x k.added k.commits right;
+      right = right-more o c d records x k.added k.right right;
       number = ap (λ (p : Point). p.number) last ∙ k.number;
       marks = ap (λ (p : Point). p.marks) last ∙ k.marks;
       shown = subst (λ (p : Point). ShowsSame p.display (shown_in o.scalars f)) (sym last) k.shown;
@@ -159,14 +159,15 @@ keeps-push o form form2 S records x f w w2 quiet right goes reads power later pe
       poked = k.poked;
     }
 
-pub keeps-as : (o : Origin) (form form2 : Phase → Type 0) (S S2 : IdealEnd → Type 0) (a : Moment)
-    → ((p : Phase) → form p → form2 p) → ((status : IdealEnd) → S status → S2 status) → Keeps o form S a → Keeps o form2 S2 a
-keeps-as o form form2 S S2 a goes stands k = record {
+pub keeps-as : (o : Origin) (form form2 : Phase → Type 0) (S S2 : IdealEnd → Type 0) (c : Cursor) (a : Moment)
+    → ((p : Phase) → form p → form2 p) → ((status : IdealEnd) → S status → S2 status) → Keeps o form S c a
+    → Keeps o form2 S2 c a
+keeps-as o form form2 S S2 c a goes stands k = record {
   added = k.added;
   form_is = goes _ k.form_is;
   reads = k.reads;
   power = k.power;
-  commits = k.commits;
+  right = k.right;
   number = k.number;
   marks = k.marks;
   shown = k.shown;
@@ -183,40 +184,39 @@ keeps-as o form form2 S S2 a goes stands k = record {
   poked = k.poked;
 }
 
-pub keeps-any : (o : Origin) (form form2 : Phase → Type 0) (S : IdealEnd → Type 0) (a : Moment)
-    → ((p : Phase) → form p → form2 p) → Keeps o form S a → Keeps o form2 IsAny a
-keeps-any o form form2 S a goes k = keeps-as o form form2 S IsAny a goes (λ status h. tt) k
+pub keeps-any : (o : Origin) (form form2 : Phase → Type 0) (S : IdealEnd → Type 0) (c : Cursor) (a : Moment)
+    → ((p : Phase) → form p → form2 p) → Keeps o form S c a → Keeps o form2 IsAny c a
+keeps-any o form form2 S c a goes k = keeps-as o form form2 S IsAny c a goes (λ status h. tt) k
 
 -- ---- readings
 
-pub keeps-reads : (o : Origin) (S : IdealEnd → Type 0) (records : List Record) (f : Contents) (w : WorldState) (rs : List Reading)
-    → Keeps o (IsInCycle o records) S (now records f w)
-    → Keeps o (IsInCycle o (records ++ read_records rs)) S
+pub keeps-reads : (o : Origin) (S : IdealEnd → Type 0) (c : Cursor) (records : List Record) (f : Contents) (w : WorldState)
+    (rs : List Reading) → Keeps o (IsInCycle o records) S c (now records f w)
+    → Keeps o (IsInCycle o (records ++ read_records rs)) S c
     (now (records ++ read_records rs) f (record w { readings = w.readings ++ rs }))
-keeps-reads o S records f w [] k =
-    subst (λ (r : List Record). Keeps o (IsInCycle o r) S (now r f (record w { readings = w.readings ++ [] })))
+keeps-reads o S c records f w [] k =
+    subst (λ (r : List Record). Keeps o (IsInCycle o r) S c (now r f (record w { readings = w.readings ++ [] })))
     (sym (append-nil records))
-    (subst (λ (r : List Reading). Keeps o (IsInCycle o records) S (now records f (record w { readings = r })))
+    (subst (λ (r : List Reading). Keeps o (IsInCycle o records) S c (now records f (record w { readings = r })))
     (sym (append-nil w.readings)) k)
-keeps-reads o S records f w (r ∷ rs) k =
-    let p : Powers o (records ++ Read r ∷ []) (record w { readings = w.readings ++ r ∷ [] }) = record {
-      begun = k.power.begun;
+keeps-reads o S c records f w (r ∷ rs) k =
+    let p : Powers o c.begun (records ++ Read r ∷ []) (record w { readings = w.readings ++ r ∷ [] }) = record {
       spans = k.power.spans;
       ticks = k.power.ticks;
       cycles = k.power.cycles;
       counted = cycles-more records (Read r) ∙ k.power.counted;
     } in
-    let one : Keeps o (IsInCycle o (records ++ Read r ∷ [])) S
+    let one : Keeps o (IsInCycle o (records ++ Read r ∷ [])) S c
     (now (records ++ Read r ∷ []) f (record w { readings = w.readings ++ r ∷ [] })) =
-    keeps-push o (IsInCycle o records) (IsInCycle o (records ++ Read r ∷ [])) S records (Read r) f w
-    (record w { readings = w.readings ++ r ∷ [] }) tt tt (λ q h. in_cycle-more o records (Read r) q refl (λ n. refl) h) refl p
+    keeps-push o (IsInCycle o records) (IsInCycle o (records ++ Read r ∷ [])) S c c records (Read r) f w
+    (record w { readings = w.readings ++ r ∷ [] }) tt refl (λ q h. in_cycle-more o records (Read r) q refl (λ n. refl) h) refl p
     (omega arith) refl k in
-    subst (λ (x : List Record). Keeps o (IsInCycle o x) S (now x f (record w { readings = w.readings ++ r ∷ rs })))
+    subst (λ (x : List Record). Keeps o (IsInCycle o x) S c (now x f (record w { readings = w.readings ++ r ∷ rs })))
     (append_assoc records (Read r ∷ []) (read_records rs))
-    (subst (λ (x : List Reading). Keeps o (IsInCycle o ((records ++ Read r ∷ []) ++ read_records rs)) S
+    (subst (λ (x : List Reading). Keeps o (IsInCycle o ((records ++ Read r ∷ []) ++ read_records rs)) S c
     (now ((records ++ Read r ∷ []) ++ read_records rs) f (record w { readings = x })))
     (append_assoc w.readings (r ∷ []) rs)
-    (keeps-reads o S (records ++ Read r ∷ []) f (record w { readings = w.readings ++ r ∷ [] }) rs one))
+    (keeps-reads o S c (records ++ Read r ∷ []) f (record w { readings = w.readings ++ r ∷ [] }) rs one))
 
 -- ---- a commit
 
@@ -225,25 +225,26 @@ some-earlier earlier p h =
     let n : length (earlier ++ p ∷ []) ≡ length earlier + 1 = length-append earlier (p ∷ []) in
     omega arith
 
-pub keeps-commit : (o : Origin) (S S2 : IdealEnd → Type 0) (records : List Record) (f f2 : Contents) (w w2 : WorldState)
-    (number marks i pc sp log : ℕ) (sets : List Shown) → Keeps o (IsInCycle o records) S (now records f w) → Calm w w2
+pub keeps-commit : (o : Origin) (S S2 : IdealEnd → Type 0) (c : Cursor) (records : List Record) (f f2 : Contents)
+    (w w2 : WorldState) (number marks i pc sp log ticks : ℕ) (sets : List Shown)
+    → Keeps o (IsInCycle o records) S c (now records f w) → Calm w w2
     → cycles_in o.records < cycles_in records
     → IsWellFormed (words_of f2.words) → f2.poked ≡ f.poked → IsShut (kept_in f2) → number ≡ commits_of (kept_in f) + 1
     → commits_of (kept_in f2) ≡ number → marks_of (kept_in f2) ≡ marks
     → marks + o.world.spent ≤ marks_of (kept_in o.fram) + w2.spent
     → number + o.world.spent ≤ commits_of (kept_in o.fram) + w2.spent
-    → i + o.world.spent ≤ w2.spent → log ≤ 256
+    → i + o.world.spent ≤ w2.spent → log ≤ 256 → c.at + ticks ≤ c.span
     → AreInData o.scalars → Leads o.scalars (story_in o records).last.display sets (kept_in f2).memory
     → Always o (readings_so_far (story_in o records)) i
-    (λ t. HasRecovered S2 o.world.period (words_of f2.words) t × IsPrinted number marks pc sp t)
-    → Keeps o (IsInCycle o (records ++ Commit number marks i pc sp 155 log sets ∷ [])) S2
+    (λ t. HasRecovered S2 o.world.period (words_of f2.words) t × IsPrinted number marks pc sp log ticks t)
+    → Keeps o (IsInCycle o (records ++ Commit number marks i pc sp 155 log sets ∷ [])) S2 (committed c ticks)
     (now (records ++ Commit number marks i pc sp 155 log sets ∷ []) f2 w2)
-keeps-commit o S S2 records f f2 w w2 number marks i pc sp log sets k calm some formed poked shut next commits_are marks_are low
-    high later fits placed led is =
+keeps-commit o S S2 c records f f2 w w2 number marks i pc sp log ticks sets k calm some formed poked shut next commits_are
+    marks_are low high later fits within placed led is =
     let x = Commit number marks i pc sp 155 log sets in
     let s = story_in o records in
     let told : story_in o (records ++ x ∷ []) ≡ after s x = story-more o records x k.added in
-    let p : Powers o records w2 = powers-calm o records w w2 some calm k.power in
+    let p : Powers o c.begun records w2 = powers-calm o c.begun records w w2 some calm k.power in
     record {
       added = adds-more o records x k.added;
       form_is = subst (IsInCycle o (records ++ x ∷ [])) (sym (phase-more o (cycles_in o.records) records x k.added))
@@ -251,22 +252,24 @@ keeps-commit o S S2 records f f2 w w2 number marks i pc sp log sets k calm some 
       reads = calm.readings ∙ k.reads
           ∙ ap (λ r. o.world.readings ++ r) (sym (reads-more o records x k.added ∙ append-nil (reads_of (added_in o records))));
       power = record {
-        begun = p.begun;
         spans = p.spans;
         ticks = p.ticks;
         cycles = p.cycles;
         counted = cycles-more records x ∙ p.counted;
       };
-      commits = right-more o records x k.added k.commits (record {
+      right = right-more o c (committed c ticks) records x k.added k.right (record {
         number_is = next ∙ ap (λ n. n + 1) (sym k.number);
         words_are = refl;
         log_fits = fits;
+        ticks = ticks;
         machine = λ start t. claim-map start (readings_so_far s) i
-            (λ u. HasRecovered S2 o.world.period (words_of f2.words) u × IsPrinted number marks pc sp u)
-            (IsPrinted number marks pc sp) (λ u h. h.1) (is start t);
+            (λ u. HasRecovered S2 o.world.period (words_of f2.words) u × IsPrinted number marks pc sp log ticks u)
+            (IsPrinted number marks pc sp log ticks) (λ u h. h.1) (is start t);
+        within = within;
+        behind = refl;
         sets_are = led.sets_are;
         shown = λ start t. claim-map start (readings_so_far s) i
-            (λ u. HasRecovered S2 o.world.period (words_of f2.words) u × IsPrinted number marks pc sp u)
+            (λ u. HasRecovered S2 o.world.period (words_of f2.words) u × IsPrinted number marks pc sp log ticks u)
             (λ u. ShowsSame (shown_with s sets) (display_of o.scalars u.core.memory))
             (λ u h. ShowsSame-join led.shows (agrees-shows o.scalars u (kept_in f2).registers (kept_in f2).memory
             ((kept_in f2).state 0) None ((kept_in f2).state 3 + 65536 * (kept_in f2).state 4) placed h.0.fits)) (is start t);
@@ -278,7 +281,7 @@ keeps-commit o S S2 records f f2 w w2 number marks i pc sp log sets k calm some 
       machine = λ start t. subst (λ (v : Story). Claim start v.last.readings v.last.instrs
           (HasRecovered S2 o.world.period (words_of f2.words))) (sym told)
           (claim-map start (readings_so_far s) i
-          (λ u. HasRecovered S2 o.world.period (words_of f2.words) u × IsPrinted number marks pc sp u)
+          (λ u. HasRecovered S2 o.world.period (words_of f2.words) u × IsPrinted number marks pc sp log ticks u)
           (HasRecovered S2 o.world.period (words_of f2.words)) (λ u h. h.0) (is start t));
       instrs_later = subst (λ (v : Story). v.last.instrs + o.world.spent ≤ w2.spent) (sym told) later;
       marks_later = subst (λ n. n + o.world.spent ≤ marks_of (kept_in o.fram) + w2.spent) (sym marks_are) low;

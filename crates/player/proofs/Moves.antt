@@ -27,8 +27,9 @@ use Rattle.services.specs.Serving.{IsReady}
 use Rattle.world.specs.World.{WorldState, IsLawful, Spends}
 use Rattle.world.specs.declared.history.Record.{Record}
 use Rattle.player.specs.Playing.{Origin, commits_of, kept_in, story_in, IsRunning, IsPlayable, readings_so_far, now}
-use Rattle.player.specs.Turning.{IsInCycle, HasCome, Goes, Ends}
-use Rattle.player.proofs.Keeping.{IsStill, calm-spends, keeps-on, keeps-any}
+use Rattle.player.specs.Ticks.{Cursor, StopsAt}
+use Rattle.player.specs.Turning.{IsInCycle, HasCome, Goes, IsCut, Ends}
+use Rattle.player.proofs.Keeping.{claim-map, IsStill, calm-spends, keeps-on, keeps-any}
 
 -- the write gate of a segment
 abbrev pub gate : (segment : ℕ) → ℕ → Bool
@@ -242,10 +243,13 @@ next-goes o instrs here registers registers2 work records f f2 w w2 g put poked 
     let spent : w2.spent ≡ w.spent + 1 = spends.spent in
     let readings = readings_so_far (story_in o records) in
     record {
+      cursor = g.cursor;
       rests = record {
-        keeps = keeps-on o (IsInCycle o records) IsRunning records f f2 w w2 still calm k.form_is.1 k;
+        keeps = keeps-on o (IsInCycle o records) IsRunning g.cursor records f f2 w w2 still calm k.form_is.1 k;
         instrs_are = g.rests.instrs_are;
       };
+      since = omega (arith, g.since, calm.whole);
+      later = omega (arith, g.later);
       going = g.going;
       ready = record {
         segment = g.ready.segment ∙ sym (ap (λ (r : Machine). r.state 0) written_is.recovered);
@@ -278,10 +282,48 @@ wild-ends o instrs here registers work records f f2 w w2 address g put poked spe
     let still = still-written f f2 (written work.segment (words_of f.words) (words_of f2.words) put k.well_formed g.ready.segment)
     poked in
     record {
-      keeps = keeps-any o (IsInCycle o records) (IsInCycle o records) IsRunning (now records f2 w2) (λ p h. h)
-          (keeps-on o (IsInCycle o records) IsRunning records f f2 w w2 still (calm-spends 1 w w2 spends) k.form_is.1 k);
+      cursor = g.cursor;
+      keeps = keeps-any o (IsInCycle o records) (IsInCycle o records) IsRunning g.cursor (now records f2 w2) (λ p h. h)
+          (keeps-on o (IsInCycle o records) IsRunning g.cursor records f f2 w w2 still (calm-spends 1 w w2 spends) k.form_is.1 k);
       own = refl;
       cause = tt;
+    }
+
+-- ---- power fails before an instruction
+
+stops-at : (c : Cursor) (number : ℕ) (registers : List ℕ) (work : Work) (m : ℕ → ℕ) (w : WorldState) (t : Ideal)
+    → work.commits ≡ number → work.since + c.span ≡ w.spent + w.left + c.at → w.left ≡ 0 → HasCome registers work m w t
+    → StopsAt c number (count_of m) t
+stops-at c number registers work m w t same since none h =
+    let ticks : work.since + t.meter.ticks ≡ w.spent = h.counts.ticks in
+    record {
+      runs = h.runs;
+      commits = h.counts.commits ∙ same;
+      ticks = omega (arith, since, none, ticks);
+      entries = h.counts.entries;
+    }
+
+pub tick-cut : (o : Origin) (instrs here : ℕ) (registers : List ℕ) (work : Work) (records : List Record) (f : Contents)
+    (w : WorldState) → Goes o instrs here registers work (now records f w) → w.left ≡ 0 → IsCut o instrs (now records f w)
+tick-cut o instrs here registers work records f w g none =
+    let k = g.rests.keeps in
+    let s = story_in o records in
+    let m = words_of f.words in
+    record {
+      cursor = g.cursor;
+      rests = g.rests;
+      none = none;
+      off = record {
+        behind = refl;
+        fits = k.well_formed.count;
+        how = inr (inl (
+          here,
+          λ start st. claim-map start (readings_so_far s) here (HasCome registers work m w)
+              (StopsAt g.cursor s.last.number (count_of m))
+              (λ t h. stops-at g.cursor s.last.number registers work m w t (g.number ∙ sym k.number) g.since none h)
+              (g.machine start st),
+        ));
+      };
     }
 
 -- ---- an instruction that calls a service leaves the board ready for it

@@ -10,7 +10,8 @@ use Rattle.world.specs.History.{Story, beginning, after, story}
 use Rattle.world.specs.declared.history.Record.{Record}
 use Rattle.world.specs.declared.history.Record.TheVariants.{On, Read, Commit, Off, End}
 use Rattle.player.specs.Form.{Phase, Between, Within, Over, Broken, is_power, phase_after, phase_of, is_on, cycles_in, read_in, reads_of}
-use Rattle.player.specs.Playing.{Origin, first_point, added_in, story_in, IsRight, AreRight}
+use Rattle.player.specs.Playing.{Origin, first_point, first_cursor, added_in, story_in, IsRight, AreRight}
+use Rattle.player.specs.Ticks.{Cursor}
 use Rattle.player.specs.Turning.{IsInCycle}
 
 -- the playing only added records
@@ -47,17 +48,17 @@ reads-more o xs x h =
     ap reads_of (added-more o xs x h)
     ∙ fold-append (λ (rs : List Reading) (r : Record). rs ++ read_in r) [] (added_in o xs) (x ∷ [])
 
-right-append : (o : Origin) (s : Story) (xs ys : List Record) → AreRight o s xs → AreRight o (fold after s xs) ys
-    → AreRight o s (xs ++ ys)
-right-append o s [] ys h k = k
-right-append o s (x ∷ xs) ys h k = (h.0, right-append o (after s x) xs ys h.1 k)
+right-append : (o : Origin) (s : Story) (b c d : Cursor) (xs ys : List Record) → AreRight o s b xs c
+    → AreRight o (fold after s xs) c ys d → AreRight o s b (xs ++ ys) d
+right-append o s b c d [] ys h k = subst (λ x. AreRight o s x ys d) h k
+right-append o s b c d (x ∷ xs) ys h k = (h.0, h.1, right-append o (after s x) h.0 c d xs ys h.2 k)
 
-pub right-more : (o : Origin) (xs : List Record) (x : Record) → Adds o xs
-    → AreRight o (beginning (first_point o)) (added_in o xs) → IsRight o (story_in o xs) x
-    → AreRight o (beginning (first_point o)) (added_in o (xs ++ x ∷ []))
-right-more o xs x h k r =
-    subst (AreRight o (beginning (first_point o))) (sym (added-more o xs x h))
-    (right-append o (beginning (first_point o)) (added_in o xs) (x ∷ []) k (r, tt))
+pub right-more : (o : Origin) (c d : Cursor) (xs : List Record) (x : Record) → Adds o xs
+    → AreRight o (beginning (first_point o)) (first_cursor o) (added_in o xs) c → IsRight o (story_in o xs) c x d
+    → AreRight o (beginning (first_point o)) (first_cursor o) (added_in o (xs ++ x ∷ [])) d
+right-more o c d xs x h k r =
+    subst (λ y. AreRight o (beginning (first_point o)) (first_cursor o) y d) (sym (added-more o xs x h))
+    (right-append o (beginning (first_point o)) (first_cursor o) c d (added_in o xs) (x ∷ []) k (d, r, refl))
 
 pub cycles-more : (xs : List Record) (x : Record)
     → cycles_in (xs ++ x ∷ []) ≡ (if is_on x then cycles_in xs + 1 else cycles_in xs)

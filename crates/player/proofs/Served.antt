@@ -82,7 +82,7 @@ pub record IsStepped (work work2 : Work) (spent : ℕ) (c : Option Committed) : 
   pub block : work2.block_open ≡ work.block_open
   pub length_is : work2.block_length ≡ work.block_length
   pub commits : OnCommit c (work2.commits ≡ work.commits + 1) (work2.commits ≡ work.commits)
-  pub since : OnCommit c (work2.since ≡ spent) (Unit {0})
+  pub since : OnCommit c (work2.since ≡ spent) (work2.since ≡ work.since)
   pub words : IfSome c (λ k. k.words ≡ 155)
   pub log : IfSome c (λ k. k.log ≤ 256)
 
@@ -114,7 +114,7 @@ refused-answer : (work work2 : Work) (world2 : WorldState) (kind : EndKind) → 
     → IsAnswer work work2 world2 (served.End kind None)
 refused-answer work work2 world2 kind own same = record {
   stepped = subst (λ (x : Work). IsStepped work x world2.spent None) (sym same)
-      (record { marks = omega arith; block = refl; length_is = refl; commits = refl; since = tt; words = tt; log = tt });
+      (record { marks = omega arith; block = refl; length_is = refl; commits = refl; since = refl; words = tt; log = tt });
   own = λ k c e. ap is_power (same-kind kind k c None e) ∙ own;
   none = λ e. absurd (no-off kind None e);
 }
@@ -142,7 +142,7 @@ stepped-by e false entries work spent fits = record {
   block = refl;
   length_is = refl;
   commits = refl;
-  since = tt;
+  since = refl;
   words = tt;
   log = tt;
 }

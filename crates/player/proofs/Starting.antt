@@ -7,7 +7,7 @@ use Rattle.ideal430.specs.Ideal.{Ideal, run, with_more}
 use Rattle.ideal430.specs.Loaded.{start_of}
 use Rattle.ideal430.specs.Uses.{IsClean}
 use Rattle.player.specs.Form.{Phase}
-use Rattle.player.specs.Playing.{Origin, origin, marks_of, commits_of, kept_in, story_in, HasRecovered, IsRunning, IsPlayable, Starts, started, Moment, Keeps}
+use Rattle.player.specs.Playing.{Origin, origin, marks_of, commits_of, kept_in, story_in, HasRecovered, IsRunning, IsPlayable, Starts, started, Moment, Plays}
 
 pub load-playable : (f : Contents) → ((k : ℕ) → (kept_in f).state k ≡ 0) → IsPlayable (kept_in f)
 load-playable f zero_state =
@@ -54,11 +54,12 @@ load-starts o zero_state a =
     }
 
 -- where a playing left a machine that runs, another one may begin
-pub keeps-start : (o : Origin) (form : Phase → Type 0) (a : Moment) (start : Ideal) → Keeps o form IsRunning a → Starts start o
+pub keeps-start : (o : Origin) (form : Phase → Type 0) (a : Moment) (start : Ideal) → Plays o form IsRunning a → Starts start o
     → IsClean (story_in o a.records).last.instrs (with_more start (story_in o a.records).last.readings)
     → Starts (run (story_in o a.records).last.instrs (with_more start (story_in o a.records).last.readings))
     (origin a.fram a.world a.records o.scalars)
-keeps-start o form a start k s clean =
+keeps-start o form a start p s clean =
+    let k = p.keeps in
     let h = k.machine start s clean in
     let t = run (story_in o a.records).last.instrs (with_more start (story_in o a.records).last.readings) in
     record {

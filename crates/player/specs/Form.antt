@@ -44,6 +44,13 @@ IsWhole (Within k) = Unit {0}
 IsWhole (Over kind) = Unit {0}
 IsWhole Broken = ⊥
 
+-- no power cycle goes on: power failed, or was wanting
+abbrev pub IsAtRest : Phase → Type 0
+IsAtRest (Between k) = Unit {0}
+IsAtRest (Within k) = ⊥
+IsAtRest (Over kind) = is_power kind ≡ true
+IsAtRest Broken = ⊥
+
 -- it ended in this way
 abbrev pub IsOver : EndKind → Phase → Type 0
 IsOver kind phase = phase ≡ Over kind

@@ -1,3 +1,4 @@
 pub mod Form
 pub mod Playing
+pub mod Ticks
 pub mod Turning

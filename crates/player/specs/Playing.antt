@@ -1,27 +1,29 @@
 -- The playing of a board through power cycles: what holds of its memory, of the outside and of the history at each moment.
-use Rattle.std.specs.Prelude.{◌≡◌, ℕ, ◌+◌, ◌*◌, ◌<◌, ◌≤◌, ◌^◌, List, [], ◌∷◌, ◌++◌, length, drop, fold, sum}
+use Rattle.std.specs.Prelude.{◌≡◌, ◌⊎◌, ℕ, suc, ◌+◌, ◌*◌, ◌<◌, ◌≤◌, ◌^◌, List, [], ◌∷◌, ◌++◌, Option, Some, None, length, drop, fold, sum}
 use Rattle.base16.specs.Memory.{words_of}
 use Rattle.base16.specs.declared.end.EndKind.{EndKind}
 use Rattle.base16.specs.declared.end.EndKind.TheVariants.{Done, Power, StackFull, BlockFull, OutputFull, Wild}
 use Rattle.base16.specs.declared.image.Scalar.{Scalar}
 use Rattle.base16.specs.declared.reading.Reading.{Reading}
+use Rattle.board_map.specs.Map.{count_of}
 use Rattle.board_map.specs.Recovered.{Machine, recovered}
 use Rattle.board_map.specs.WellFormed.{IsWellFormed}
 use Rattle.display.specs.Display.{display_of, ShowsSame}
 use Rattle.display.specs.Sets.{sets_between}
 use Rattle.fram.specs.Contents.{Contents}
 use Rattle.ideal430.specs.Agreement.{Claim}
-use Rattle.ideal430.specs.Ideal.{Meter, Ideal}
+use Rattle.ideal430.specs.Ideal.{Meter, Ideal, run, with_more}
 use Rattle.ideal430.specs.Loaded.{start_of}
 use Rattle.ideal430.specs.declared.state.IdealEnd.{IdealEnd}
-use Rattle.ideal430.specs.declared.state.IdealEnd.TheVariants.{Running, Ended}
+use Rattle.ideal430.specs.declared.state.IdealEnd.TheVariants.{Running}
 use Rattle.services.specs.Following.{Fits}
-use Rattle.world.specs.History.{Display, Point, Story, beginning, changed, taken_in, after, story}
+use Rattle.world.specs.History.{Display, Point, Attempt, Story, beginning, changed, taken_in, after, story}
 use Rattle.world.specs.World.{WorldState}
 use Rattle.world.specs.declared.history.Record.{Record}
 use Rattle.world.specs.declared.history.Record.TheVariants.{On, Read, Commit, Off, End}
 use Rattle.world.specs.declared.history.Shown.{Shown}
-use Rattle.player.specs.Form.{Phase, phase_of, cycles_in, reads_of}
+use Rattle.player.specs.Form.{Phase, IsAtRest, phase_of, cycles_in, reads_of}
+use Rattle.player.specs.Ticks.{Cursor, unbegun, woken, committed, cut, EndsWithin, StopsAt, StopsWithin}
 
 -- ---- where a playing begins
 
@@ -116,11 +118,19 @@ started m period = record (start_of m []) {
 abbrev pub Always : Origin → List Reading → (instrs : ℕ) → (Ideal → Type 0) → Type 0
 Always o readings instrs Q = (start : Ideal) → Starts start o → Claim start readings instrs Q
 
+-- the same before and after one instruction more
+abbrev pub AlwaysNext : Origin → List Reading → (instrs : ℕ) → (Ideal → Ideal → Type 0) → Type 0
+AlwaysNext o readings instrs Q = (start : Ideal) → Starts start o
+    → Claim start readings (suc instrs) (Q (run instrs (with_more start readings)))
+
 -- ---- commits
 
--- The machine is where a commit was printed: its last mark was due, and was the one of this number.
-pub record IsPrinted (number marks pc sp : ℕ) (t : Ideal) : Type 0 where
+-- The machine is where a commit was printed: its last mark was due, and was the one of this number. So many ticks it took
+-- since the one before, with its commit, and so many entries it made.
+pub record IsPrinted (number marks pc sp log ticks : ℕ) (t : Ideal) : Type 0 where
   pub due : t.meter.ticks ≡ 0
+  pub ticks_are : t.meter.due_ticks ≡ ticks
+  pub log_is : t.meter.due_entries ≡ log
   pub number_is : t.meter.commits ≡ number
   pub marks_are : t.marks ≡ marks
   pub pc_is : t.core.regs 0 ≡ pc
@@ -134,43 +144,83 @@ readings_so_far s = s.last.readings ++ taken_in s.going
 abbrev pub shown_with : Story → List Shown → Display
 shown_with s sets = fold changed s.last.display sets
 
--- A commit has the number after the last one's, wrote 155 words, found at most 256 entries of the undo log, and prints where
--- the machine is on the committed readings after the printed instructions. Its changes are the differences from what was
--- shown at the last commit to what is shown then, and that is what the machine's memory shows.
-pub record IsCommit (o : Origin) (s : Story) (number marks instrs pc sp words log : ℕ) (sets : List Shown) : Type 0 where
+-- A commit has the number after the last one's, and the machine counts its marks that were due, so it follows the first of
+-- them. It wrote 155 words, found the entries that the attempt made, at most 256, and was over within the power cycle. It
+-- prints where the machine is on the committed readings after the printed instructions. Its changes are the differences from
+-- what was shown at the last commit to what is shown then, and that is what the machine's memory shows.
+pub record IsCommit (o : Origin) (s : Story) (c : Cursor) (number marks instrs pc sp words log : ℕ) (sets : List Shown)
+    (d : Cursor) : Type 0 where
   pub number_is : number ≡ s.last.number + 1
   pub words_are : words ≡ 155
   pub log_fits : log ≤ 256
-  pub machine : Always o (readings_so_far s) instrs (IsPrinted number marks pc sp)
+  pub ticks : ℕ
+  pub machine : Always o (readings_so_far s) instrs (IsPrinted number marks pc sp log ticks)
+  pub within : c.at + ticks ≤ c.span
+  pub behind : d ≡ committed c ticks
   pub sets_are : sets ≡ sets_between o.scalars s.last.display (shown_with s sets)
   pub shown : Always o (readings_so_far s) instrs (λ t. ShowsSame (shown_with s sets) (display_of o.scalars t.core.memory))
 
--- the machine ended so on the readings so far
-pub record HasEnded (o : Origin) (s : Story) (kind : EndKind) : Type 0 where
+-- ---- power fails
+
+-- an attempt goes on, and P holds of it
+abbrev pub OnGoing : Option Attempt → (Attempt → Type 0) → Type 0
+OnGoing None P = ⊥
+OnGoing (Some a) P = P a
+
+-- power failed in the boot: no reading was taken, and as many entries are valid as before
+pub record IsBootCut (s : Story) (c : Cursor) (valid : ℕ) : Type 0 where
+  pub within : c.span < c.at
+  pub none : OnGoing s.going (λ a. a.readings ≡ [])
+  pub same : valid ≡ c.valid
+
+-- Power failed behind the boot, before an instruction or in a service. So neither a mark that was due lies within the power
+-- cycle with its commit, nor a mark that was refused.
+abbrev pub IsRunCut : Origin → Story → Cursor → (valid : ℕ) → Type 0
+IsRunCut o s c valid =
+    ((instrs : ℕ) × Always o (readings_so_far s) instrs (StopsAt c s.last.number valid))
+    ⊎ ((instrs : ℕ) × AlwaysNext o (readings_so_far s) instrs (StopsWithin c s.last.number valid))
+
+-- Power failed, and so many entries are valid, at most 256.
+pub record IsOff (o : Origin) (s : Story) (c d : Cursor) : Type 0 where
+  pub behind : d ≡ cut c d.valid
+  pub fits : d.valid ≤ 256
+  pub how : IsBootCut s c d.valid ⊎ IsRunCut o s c d.valid
+
+-- ---- the end
+
+-- the machine ended so on the readings so far, within the power cycle
+pub record HasEnded (o : Origin) (s : Story) (c : Cursor) (kind : EndKind) : Type 0 where
   pub instrs : ℕ
-  pub ended : Always o (readings_so_far s) instrs (λ t. t.status ≡ Ended kind)
+  pub ended : Always o (readings_so_far s) instrs (EndsWithin c s.last.number kind)
 
 -- A run ended as the machine did. Nothing is said of want of power, nor of an access that the board refuses: the write gate
 -- refuses more than the machine does.
-abbrev pub IsCause : Origin → Story → EndKind → Type 0
-IsCause o s Done = HasEnded o s Done
-IsCause o s Power = Unit {0}
-IsCause o s StackFull = HasEnded o s StackFull
-IsCause o s BlockFull = HasEnded o s BlockFull
-IsCause o s OutputFull = HasEnded o s OutputFull
-IsCause o s (Wild address) = Unit {0}
+abbrev pub IsCause : Origin → Story → Cursor → EndKind → Type 0
+IsCause o s c Done = HasEnded o s c Done
+IsCause o s c Power = Unit {0}
+IsCause o s c StackFull = HasEnded o s c StackFull
+IsCause o s c BlockFull = HasEnded o s c BlockFull
+IsCause o s c OutputFull = HasEnded o s c OutputFull
+IsCause o s c (Wild address) = Unit {0}
 
-abbrev pub IsRight : Origin → Story → Record → Type 0
-IsRight o s (On cycle) = Unit {0}
-IsRight o s (Read r) = Unit {0}
-IsRight o s (Commit number marks instrs pc sp words log sets) = IsCommit o s number marks instrs pc sp words log sets
-IsRight o s Off = Unit {0}
-IsRight o s (End kind) = IsCause o s kind
+-- ---- records
 
--- each commit and the end of these records are, behind this story
-abbrev pub AreRight : Origin → Story → List Record → Type 0
-AreRight o s [] = Unit {0}
-AreRight o s (r ∷ rest) = IsRight o s r × AreRight o (after s r) rest
+-- a record is right, behind this story, and leads from a place to another
+abbrev pub IsRight : Origin → Story → Cursor → Record → Cursor → Type 0
+IsRight o s c (On cycle) d = d ≡ woken c d.span
+IsRight o s c (Read r) d = d ≡ c
+IsRight o s c (Commit number marks instrs pc sp words log sets) d = IsCommit o s c number marks instrs pc sp words log sets d
+IsRight o s c Off d = IsOff o s c d
+IsRight o s c (End kind) d = IsCause o s c kind × (d ≡ c)
+
+-- so is each of these records, one behind the other
+abbrev pub AreRight : Origin → Story → Cursor → List Record → Cursor → Type 0
+AreRight o s c [] d = d ≡ c
+AreRight o s c (r ∷ rest) d = (mid : Cursor) × IsRight o s c r mid × AreRight o (after s r) mid rest d
+
+-- where a playing begins
+abbrev pub first_cursor : Origin → Cursor
+first_cursor o = unbegun (count_of (words_of o.fram.words))
 
 -- ---- ticks
 
@@ -180,8 +230,7 @@ left_of [] left = 0
 left_of (x ∷ rest) left = left
 
 -- Power cycles of these ticks began, one for each `On` record, and all of them are spent but those that are left.
-pub record Powers (o : Origin) (records : List Record) (world : WorldState) : Type 0 where
-  pub begun : List ℕ
+pub record Powers (o : Origin) (begun : List ℕ) (records : List Record) (world : WorldState) : Type 0 where
   pub spans : world.spans ≡ o.world.spans ++ begun
   pub ticks : world.spent + left_of begun world.left ≡ o.world.spent + sum begun
   pub cycles : world.cycles + length begun ≡ o.world.cycles
@@ -206,16 +255,16 @@ abbrev pub now : List Record → Contents → WorldState → Moment
 now records fram world = record { records = records; fram = fram; world = world }
 
 -- What holds at each moment of a playing. The records that it added have this form. They have the readings that the outside
--- gave since, in order, and an `On` for each power cycle that began. Each commit is printed rightly. The memory recovers to
--- the last commit, or to what it recovered to as the playing began, and that is where the machine is on the committed
+-- gave since, in order, and an `On` for each power cycle that began. Each of them is right. The memory recovers to the last
+-- commit, or to what it recovered to as the playing began, and that is where the machine is on the committed
 -- readings after the instructions up to that commit: its registers, working segment, marks and settled bytes are the same.
 -- What the history shows at its last commit is what that memory shows.
-pub record Keeps (o : Origin) (form : Phase → Type 0) (standing : IdealEnd → Type 0) (a : Moment) : Type 0 where
+pub record Keeps (o : Origin) (form : Phase → Type 0) (standing : IdealEnd → Type 0) (c : Cursor) (a : Moment) : Type 0 where
   pub added : a.records ≡ o.records ++ added_in o a.records
   pub form_is : form (phase_of (cycles_in o.records) (added_in o a.records))
   pub reads : a.world.readings ≡ o.world.readings ++ reads_of (added_in o a.records)
-  pub power : Powers o a.records a.world
-  pub commits : AreRight o (beginning (first_point o)) (added_in o a.records)
+  pub power : Powers o c.begun a.records a.world
+  pub right : AreRight o (beginning (first_point o)) (first_cursor o) (added_in o a.records) c
   pub number : (story_in o a.records).last.number ≡ commits_of (kept_in a.fram)
   pub marks : (story_in o a.records).last.marks ≡ marks_of (kept_in a.fram)
   pub shown : ShowsSame (story_in o a.records).last.display (shown_in o.scalars a.fram)
@@ -231,6 +280,12 @@ pub record Keeps (o : Origin) (form : Phase → Type 0) (standing : IdealEnd →
   pub well_formed : IsWellFormed (words_of a.fram.words)
   pub shut : IsShut (kept_in a.fram)
   pub poked : a.fram.poked ≡ o.fram.poked
+
+-- All of this holds, and as many entries are valid as the next boot is to find, where no power cycle goes on.
+pub record Plays (o : Origin) (form : Phase → Type 0) (standing : IdealEnd → Type 0) (a : Moment) : Type 0 where
+  pub cursor : Cursor
+  pub keeps : Keeps o form standing cursor a
+  pub valid : IsAtRest (phase_of (cycles_in o.records) (added_in o a.records)) → count_of (words_of a.fram.words) ≡ cursor.valid
 
 -- a board that can be played: marks and commits can be counted on, and no expires block is open
 pub record IsPlayable (machine : Machine) : Type 0 where

@@ -4,6 +4,8 @@ use Rattle.base16.specs.Memory.{words_of}
 use Rattle.base16.specs.declared.end.EndKind.{EndKind}
 use Rattle.base16.specs.declared.image.Scalar.{Scalar}
 use Rattle.base16.specs.declared.reading.Reading.{Reading}
+use Rattle.board_map.specs.Costs.{boot_cost}
+use Rattle.board_map.specs.Map.{count_of}
 use Rattle.board_map.specs.declared.work.Work.{Work}
 use Rattle.core430.specs.Registers.{view_of}
 use Rattle.display.specs.Display.{display_of}
@@ -14,7 +16,8 @@ use Rattle.ideal430.specs.Ideal.{Ideal}
 use Rattle.ideal430.specs.Service.{taken_of}
 use Rattle.ideal430.specs.declared.state.IdealEnd.TheVariants.{Running}
 use Rattle.player.specs.Form.{Phase, Between, Within, is_power, cycles_in}
-use Rattle.player.specs.Playing.{Origin, marks_of, commits_of, kept_in, story_in, IsRunning, IsAny, IsCause, Always, readings_so_far, Moment, Keeps}
+use Rattle.player.specs.Playing.{Origin, marks_of, commits_of, kept_in, story_in, IsRunning, IsAny, OnGoing, IsOff, IsCause, Always, readings_so_far, Moment, Keeps}
+use Rattle.player.specs.Ticks.{Cursor, cut}
 use Rattle.player.specs.declared.turning.Turn.{Turn}
 use Rattle.player.specs.declared.turning.Turn.TheVariants as turn
 use Rattle.services.specs.Following.{Counts}
@@ -22,7 +25,6 @@ use Rattle.services.specs.Serving.{IsReady, ask_found, committed_in, Serves}
 use Rattle.services.specs.declared.acting.Committed.{Committed}
 use Rattle.services.specs.declared.serving.Served.{Served}
 use Rattle.services.specs.declared.serving.Served.TheVariants as served
-use Rattle.world.specs.History.{Attempt}
 use Rattle.world.specs.World.{WorldState}
 use Rattle.world.specs.declared.history.Record.{Record}
 use Rattle.world.specs.declared.history.Record.TheVariants.{Read, Commit}
@@ -38,30 +40,35 @@ abbrev pub IsInCycle : Origin → List Record → Phase → Type 0
 IsInCycle o records phase = (phase ≡ Within (cycles_in records)) × (cycles_in o.records < cycles_in records)
 
 -- The program has not ended. So many instructions had been made at the last commit, where a boot goes on.
-pub record Rests (o : Origin) (form : Phase → Type 0) (instrs : ℕ) (a : Moment) : Type 0 where
-  pub keeps : Keeps o form IsRunning a
+pub record Rests (o : Origin) (form : Phase → Type 0) (instrs : ℕ) (c : Cursor) (a : Moment) : Type 0 where
+  pub keeps : Keeps o form IsRunning c a
   pub instrs_are : (story_in o a.records).last.instrs ≡ instrs
 
 -- it rests within a power cycle
-abbrev pub RestsWithin : Origin → (instrs : ℕ) → Moment → Type 0
-RestsWithin o instrs a = Rests o (IsInCycle o a.records) instrs a
+abbrev pub RestsAt : Origin → (instrs : ℕ) → Cursor → Moment → Type 0
+RestsAt o instrs c a = Rests o (IsInCycle o a.records) instrs c a
 
-abbrev pub RestsBetween : Origin → (instrs : ℕ) → Moment → Type 0
-RestsBetween o instrs a = Rests o (IsBetweenCycles a.records) instrs a
+abbrev pub RestsWithin : Origin → (instrs : ℕ) → Moment → Type 0
+RestsWithin o instrs a = (c : Cursor) × RestsAt o instrs c a
+
+-- it rests between two power cycles, and the entries are valid that the next boot is to find
+pub record RestsBetween (o : Origin) (instrs : ℕ) (a : Moment) : Type 0 where
+  pub cursor : Cursor
+  pub rests : Rests o (IsBetweenCycles a.records) instrs cursor a
+  pub valid : count_of (words_of a.fram.words) ≡ cursor.valid
 
 -- no tick of a power cycle that began is left
 abbrev pub IsIdle : Origin → List Record → WorldState → Type 0
 IsIdle o records w = (cycles_in records ≡ cycles_in o.records) ⊎ (w.left ≡ 0)
 
--- an attempt goes on, and P holds of it
-abbrev pub OnGoing : Option Attempt → (Attempt → Type 0) → Type 0
-OnGoing None P = ⊥
-OnGoing (Some a) P = P a
-
--- an attempt has just begun
+-- a power cycle has just begun, and no tick of it is spent
 pub record Begins (o : Origin) (instrs : ℕ) (a : Moment) : Type 0 where
-  pub rests : RestsWithin o instrs a
+  pub cursor : Cursor
+  pub rests : RestsAt o instrs cursor a
   pub going : OnGoing (story_in o a.records).going (λ attempt. attempt.readings ≡ [])
+  pub span : cursor.span ≡ a.world.left
+  pub at : cursor.at ≡ boot_cost (words_of a.fram.words)
+  pub valid : count_of (words_of a.fram.words) ≡ cursor.valid
 
 -- the machine is where the board is, and counts what it counts
 pub record HasCome (registers : List ℕ) (work : Work) (m : ℕ → ℕ) (world : WorldState) (t : Ideal) : Type 0 where
@@ -71,7 +78,11 @@ pub record HasCome (registers : List ℕ) (work : Work) (m : ℕ → ℕ) (world
 
 -- The program runs: so many instructions are made, and the machine is where the board is on the readings so far.
 pub record Goes (o : Origin) (instrs here : ℕ) (registers : List ℕ) (work : Work) (a : Moment) : Type 0 where
-  pub rests : RestsWithin o instrs a
+  pub cursor : Cursor
+  pub rests : RestsAt o instrs cursor a
+  -- the boot or the last commit was over at that tick of the power cycle
+  pub since : work.since + cursor.span ≡ a.world.spent + a.world.left + cursor.at
+  pub later : work.since ≤ a.world.spent
   pub going : OnGoing (story_in o a.records).going (λ attempt. Unit {0})
   pub ready : IsReady (words_of a.fram.words) work
   pub number : work.commits ≡ commits_of (kept_in a.fram)
@@ -82,14 +93,17 @@ pub record Goes (o : Origin) (instrs here : ℕ) (registers : List ℕ) (work : 
 
 -- power failed: no tick is left
 pub record IsCut (o : Origin) (instrs : ℕ) (a : Moment) : Type 0 where
-  pub rests : RestsWithin o instrs a
+  pub cursor : Cursor
+  pub rests : RestsAt o instrs cursor a
   pub none : a.world.left ≡ 0
+  pub off : IsOff o (story_in o a.records) cursor (cut cursor (count_of (words_of a.fram.words)))
 
 -- the run is over in this way
 pub record Ends (o : Origin) (kind : EndKind) (a : Moment) : Type 0 where
-  pub keeps : Keeps o (IsInCycle o a.records) IsAny a
+  pub cursor : Cursor
+  pub keeps : Keeps o (IsInCycle o a.records) IsAny cursor a
   pub own : is_power kind ≡ false
-  pub cause : IsCause o (story_in o a.records) kind
+  pub cause : IsCause o (story_in o a.records) cursor kind
 
 -- what a turn came to
 abbrev pub Turned : Turn → Origin → (instrs here : ℕ) (registers : List ℕ) → Work → Moment → Type 0

@@ -3,7 +3,7 @@ ghost use Rattle.std.specs.Vec.{vec_capacity};
 ghost use Rattle.display.specs.Display.{AreInData};
 ghost use Rattle.display.specs.Index.{IsIndexOf};
 ghost use Rattle.player.specs.Form.{IsOver, IsWhole, is_power, cycles_in};
-ghost use Rattle.player.specs.Playing.{Origin, IsRunning, IsBehind, IsPlayable, IsSpent, Keeps, kept_in, now};
+ghost use Rattle.player.specs.Playing.{Origin, IsRunning, IsBehind, IsPlayable, IsSpent, Plays, kept_in, now};
 ghost use Rattle.player.specs.Turning.{IsIdle, Begins, RestsWithin, RestsBetween, Cycled};
 
 use crate::recording::push_within;
@@ -77,8 +77,8 @@ pub fn cycles<W: World>(
     requires placed { AreInData symbols.now.scalars }
     requires index { IsIndexOf symbols.now.scalars index.now }
     ensures plays { MatchResult result
-        (λ kind. Keeps origin (IsOver kind) (IsBehind kind) (now records.new.items fram.new (W.state world.new)))
-        (λ e. Keeps origin IsWhole IsRunning (now records.new.items fram.new (W.state world.new))) }
+        (λ kind. Plays origin (IsOver kind) (IsBehind kind) (now records.new.items fram.new (W.state world.new)))
+        (λ e. Plays origin IsWhole IsRunning (now records.new.items fram.new (W.state world.new))) }
     ensures power { IfOk result (λ kind. is_power kind ≡ true → IsSpent origin.world (W.state world.new)) }
 {
     let mut room = Vec::new(alloc);

@@ -7,7 +7,7 @@ ghost use Rattle.ideal430.specs.Ideal.{Ideal, run, with_more};
 ghost use Rattle.ideal430.specs.Loaded.{start_of};
 ghost use Rattle.ideal430.specs.Uses.{IsClean};
 ghost use Rattle.player.specs.Form.{IsOver, IsWhole};
-ghost use Rattle.player.specs.Playing.{Origin, origin, IsPlayable, IsRunning, Keeps, Moment, Starts, kept_in, started, story_in};
+ghost use Rattle.player.specs.Playing.{Origin, origin, IsPlayable, IsRunning, Plays, Moment, Starts, kept_in, started, story_in};
 
 /// A board into which an image was loaded can be played, and the machine of that image is one from which a playing of it may
 /// begin.
@@ -21,11 +21,11 @@ pub fn a_loaded_board_starts()
 /// Where a playing ended for want of power or of memory, another one may go on: a machine from which the first began has come
 /// to one from which the second may begin, if it used settled bytes alone.
 pub fn a_playing_goes_on()
-    ensures power { (o : Origin) (a : Moment) (start : Ideal) → Keeps o (IsOver Power) IsRunning a → Starts start o
+    ensures power { (o : Origin) (a : Moment) (start : Ideal) → Plays o (IsOver Power) IsRunning a → Starts start o
         → IsClean (story_in o a.records).last.instrs (with_more start (story_in o a.records).last.readings)
         → Starts (run (story_in o a.records).last.instrs (with_more start (story_in o a.records).last.readings))
         (origin a.fram a.world a.records o.scalars) }
-    ensures memory { (o : Origin) (a : Moment) (start : Ideal) → Keeps o IsWhole IsRunning a → Starts start o
+    ensures memory { (o : Origin) (a : Moment) (start : Ideal) → Plays o IsWhole IsRunning a → Starts start o
         → IsClean (story_in o a.records).last.instrs (with_more start (story_in o a.records).last.readings)
         → Starts (run (story_in o a.records).last.instrs (with_more start (story_in o a.records).last.readings))
         (origin a.fram a.world a.records o.scalars) }

@@ -3,7 +3,7 @@ ghost use Rattle.base16.specs.Memory.{words_of};
 ghost use Rattle.board_map.specs.WellFormed.{IsWellFormed};
 ghost use Rattle.display.specs.Display.{AreInData};
 ghost use Rattle.player.specs.Form.{IsOver, IsWhole, is_power, cycles_in};
-ghost use Rattle.player.specs.Playing.{IsRunning, IsBehind, IsPlayable, IsSpent, Keeps, kept_in, now, origin};
+ghost use Rattle.player.specs.Playing.{IsRunning, IsBehind, IsPlayable, IsSpent, Plays, kept_in, now, origin};
 
 use crate::cycling::cycles;
 use crate::recording::cycles_begun;
@@ -29,8 +29,8 @@ pub fn play<W: World>(
     requires placed { AreInData symbols.now.scalars }
     ensures plays { let o = origin fram.old (W.state world.old) book.old.records symbols.now.scalars in
         MatchResult result
-        (λ kind. Keeps o (IsOver kind) (IsBehind kind) (now book.new.records fram.new (W.state world.new)))
-        (λ e. Keeps o IsWhole IsRunning (now book.new.records fram.new (W.state world.new))) }
+        (λ kind. Plays o (IsOver kind) (IsBehind kind) (now book.new.records fram.new (W.state world.new)))
+        (λ e. Plays o IsWhole IsRunning (now book.new.records fram.new (W.state world.new))) }
     ensures power { IfOk result (λ kind. is_power kind ≡ true → IsSpent (W.state world.old) (W.state world.new)) }
 {
     let index = ScalarIndex::new(alloc, symbols.scalars.as_slice())?;

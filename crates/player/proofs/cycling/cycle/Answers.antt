@@ -10,11 +10,11 @@ returns-in_default-clause-after g c =
     boot-cut g.origin c.args.instrs.now c.args.records.now.items c.args.fram.now c.boot.new.fram
     (g.W.World.state c.args.world.now) (g.W.World.state c.boot.new.world) c.requires.1.0
     (record { well_formed = c.boot.ensures.well_formed; recovered = c.boot.ensures.recovered; poked = c.boot.ensures.poked })
-    c.in_default.ensures.ticks.1 c.in_default.ensures.ticks.2
+    c.in_default.ensures.entries c.in_default.ensures.ticks.0 c.in_default.ensures.ticks.1 c.in_default.ensures.ticks.2
 
 pub turns-init : goal.turns-init
 turns-init g c = record {
-  goes = boot-goes g.origin c.args.instrs.now _ c.args.records.now.items c.args.fram.now c.boot.new.fram
+  goes = boot-goes g.origin c.args.instrs.now c.args.records.now.items c.args.fram.now c.boot.new.fram
       (g.W.World.state c.args.world.now) (g.W.World.state c.boot.new.world) c.in-Ok.regs.r c.in-Ok.work c.requires.1.0
       (record { well_formed = c.boot.ensures.well_formed; recovered = c.boot.ensures.recovered; poked = c.boot.ensures.poked })
       c.in-Ok.ensures.ticks c.in-Ok.ensures.no_entries c.in-Ok.ensures.since c.count.ensures.all c.in-Ok.ensures.registers

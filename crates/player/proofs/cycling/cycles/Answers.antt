@@ -25,8 +25,9 @@ returns-then-not-wake-clause-plays g c =
 
 pub returns-then-not-wake-clause-power : goal.returns-then-not-wake-clause-power
 returns-then-not-wake-clause-power g c = λ e.
-    spent-out g.origin c.powered.records.items (g.W.World.state c.powered.world) (g.W.World.state c.wake.new.self)
-    c.powered.invariant.rests.keeps.power c.powered.invariant.idle c.if-not-wake.ensures.none c.if-not-wake.ensures.unchanged
+    spent-out g.origin c.powered.invariant.rests.cursor.begun c.powered.records.items (g.W.World.state c.powered.world)
+    (g.W.World.state c.wake.new.self) c.powered.invariant.rests.rests.keeps.power c.powered.invariant.idle
+    c.if-not-wake.ensures.none c.if-not-wake.ensures.unchanged
 
 pub cycle-requires : goal.cycle-requires
 cycle-requires g c =
@@ -88,9 +89,10 @@ powered-preserved g c =
     let off : IsCut g.origin c.cycle.new.instrs a =
     subst (λ e. Cycled e g.origin c.cycle.new.instrs a) c.in_default.is c.in_ok-ended.ensures.after in
     let before : w.cycles + cycles_in c.powered.records.items ≡ g.origin.world.cycles + cycles_in g.origin.records =
-    cycles-total g.origin c.powered.records.items w c.powered.invariant.rests.keeps.power in
+    cycles-total g.origin c.powered.invariant.rests.cursor.begun c.powered.records.items w
+    c.powered.invariant.rests.rests.keeps.power in
     let behind : w3.cycles + cycles_in c.cycle.new.records.items ≡ g.origin.world.cycles + cycles_in g.origin.records =
-    cycles-total g.origin c.cycle.new.records.items w3 off.rests.keeps.power in
+    cycles-total g.origin off.cursor.begun c.cycle.new.records.items w3 off.rests.keeps.power in
     let same : cycles_in c.push_within-in-powered-2.new.items.items ≡ cycles_in c.cycle.new.records.items =
     ap cycles_in c.push_within-in-powered-2.ensures.items ∙ cycles-more c.cycle.new.records.items Off in
     let kept : w3.cycles ≡ (g.W.World.state c.wake.new.self).cycles = c.cycle.ensures.cycles in

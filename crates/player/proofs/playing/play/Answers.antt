@@ -6,7 +6,7 @@ use Rattle.base16.specs.declared.image.Scalar.{Scalar}
 use Rattle.display.specs.Index.{IsIndexOf}
 use Rattle.world.specs.declared.history.Record.{Record}
 use Rattle.player.specs.Form.{IsOver, IsWhole, cycles_in}
-use Rattle.player.specs.Playing.{Origin, origin, now, IsRunning, IsBehind, Keeps}
+use Rattle.player.specs.Playing.{Origin, origin, now, IsRunning, IsBehind, Plays}
 use Rattle.player.specs.Turning.{RestsBetween}
 use Rattle.player.proofs.Cycles.{begins, whole-between}
 use Rattle.player.proofs.playing.play.Goals as goal
@@ -44,7 +44,7 @@ returns-in_err-index-clause-plays g c =
     let book = c.args.book.now.records in
     let o : Origin = origin c.args.fram.now w book c.args.symbols.now.scalars in
     let p = err_from_is_err_and c.from_residual.result c.from_residual.ensures.1 in
-    let whole : Keeps o IsWhole IsRunning (now book c.args.fram.now w) =
+    let whole : Plays o IsWhole IsRunning (now book c.args.fram.now w) =
     whole-between o 0 book book c.args.fram.now w (begins o c.requires.well_formed c.requires.playable.shut) refl in
     rw p.1 whole
 
@@ -55,12 +55,12 @@ returns-clause-plays g c =
     let scalars = c.args.symbols.now.scalars in
     let same : c.into_vec-records.result.items ≡ c.args.book.now.records = c.into_vec-records.ensures ∙ c.replace.ensures.value in
     subst (λ (r : List Record). MatchResult c.cycles-ended.result
-    (λ kind. Keeps (origin c.args.fram.now w c.args.book.now.records scalars) (IsOver kind) (IsBehind kind)
+    (λ kind. Plays (origin c.args.fram.now w c.args.book.now.records scalars) (IsOver kind) (IsBehind kind)
     (now r c.cycles-ended.new.fram w2))
-    (λ e. Keeps (origin c.args.fram.now w c.args.book.now.records scalars) IsWhole IsRunning (now r c.cycles-ended.new.fram w2)))
+    (λ e. Plays (origin c.args.fram.now w c.args.book.now.records scalars) IsWhole IsRunning (now r c.cycles-ended.new.fram w2)))
     (sym c.from_vec.ensures)
     (subst (λ (r : List Record). MatchResult c.cycles-ended.result
-    (λ kind. Keeps (origin c.args.fram.now w r scalars) (IsOver kind) (IsBehind kind)
+    (λ kind. Plays (origin c.args.fram.now w r scalars) (IsOver kind) (IsBehind kind)
     (now c.cycles-ended.new.records.items c.cycles-ended.new.fram w2))
-    (λ e. Keeps (origin c.args.fram.now w r scalars) IsWhole IsRunning
+    (λ e. Plays (origin c.args.fram.now w r scalars) IsWhole IsRunning
     (now c.cycles-ended.new.records.items c.cycles-ended.new.fram w2))) same c.cycles-ended.ensures.plays)

@@ -1,17 +1,34 @@
 -- One instruction, with the service that it calls, leads from where the program goes to where the turn says.
-use Rattle.std.proofs.Common.{◌≡◌, ◌+◌, List, false, Result, Ok, Err, OnOk, is_err, sym, subst}
+use Rattle.std.proofs.Common.{◌≡◌, ◌+◌, List, false, true, Result, Ok, Err, OnOk, OnErr, is_err, sym, subst}
 use Rattle.base16.specs.declared.image.Scalar.{Scalar}
 use Rattle.display.specs.Display.{AreInData}
 use Rattle.world.specs.World.{Spends}
 use Rattle.player.specs.Playing.{now}
-use Rattle.player.specs.Turning.{Goes, IsServed}
-use Rattle.player.proofs.Moves.{next-goes, wild-ends, may-call}
+use Rattle.player.specs.Turning.{Goes, IsCut, IsServed}
+use Rattle.player.proofs.Moves.{next-goes, wild-ends, tick-cut, may-call}
 use Rattle.player.proofs.Turns.{served-turned}
 use Rattle.player.proofs.turning.take_turn.Goals as goal
 
 ok_of : {T E P : Type 0} (r : Result T E) → OnOk r P → false ≡ is_err r → P
 ok_of (Ok x) p e = p
 ok_of (Err x) p e = cc
+
+err_of : {T E P : Type 0} (r : Result T E) → OnErr r P → true ≡ is_err r → P
+err_of (Ok x) p e = cc
+err_of (Err x) p e = p
+
+pub returns-then-is_err-clause-after : goal.returns-then-is_err-clause-after
+returns-then-is_err-clause-after g c =
+    let w = g.W.World.state c.args.world.now in
+    let none : w.left ≡ 0 = err_of c.tick.result c.tick.ensures.off c.if-is_err.ensures.value in
+    let same : g.W.World.state c.tick.new.self ≡ w = err_of c.tick.result c.tick.ensures.unchanged c.if-is_err.ensures.value in
+    let goes : Goes g.origin c.args.instrs.now c.args.here.now c.args.regs.now.r c.args.work.now
+    (now c.reserve.new.self.items c.args.fram.now w) =
+    subst (λ x. Goes g.origin c.args.instrs.now c.args.here.now c.args.regs.now.r c.args.work.now (now x c.args.fram.now w))
+    (sym c.reserve.ensures.items) c.requires.1.0 in
+    subst (λ v. IsCut g.origin c.args.instrs.now (now c.reserve.new.self.items c.args.fram.now v)) (sym same)
+    (tick-cut g.origin c.args.instrs.now c.args.here.now c.args.regs.now.r c.args.work.now c.reserve.new.self.items
+    c.args.fram.now w goes none)
 
 pub returns-in-Next-clause-after : goal.returns-in-Next-clause-after
 returns-in-Next-clause-after g c =
