@@ -134,7 +134,7 @@ good b = Ok b
 same_truth : (a b : Bool) → good a ≡ good b → a ≡ b
 same_truth a b e = cc
 
-truth_is : (s : State) (of : IntType) (v : Value) (k : ℤ) (b c : Bool) → v ≡ Int k → truth_of s (numbered of v) ≡ Ok b
+pub truth_is : (s : State) (of : IntType) (v : Value) (k : ℤ) (b c : Bool) → v ≡ Int k → truth_of s (numbered of v) ≡ Ok b
     → wrapped k ≡ flag c → b ≡ c
 unfolding truth_of
 truth_is s of v k b c e ok is =
@@ -150,10 +150,21 @@ target_is p f to q true c false e = ap (λ (z : Bool). if z then step_at p f (q 
 target_is p f to q false c true e = ap (λ (z : Bool). if z then step_at p f (q + 1) else step_at p f to) e
 target_is p f to q false c false e = ap (λ (z : Bool). if z then step_at p f (q + 1) else step_at p f to) e
 
-stays : (cond : Cond) (when : Bool) (status : ℕ) → IsAsked cond
+pub stays : (cond : Cond) (when : Bool) (status : ℕ) → IsAsked cond
     → is_taken (if when then opposite cond else cond) status ≡ (if when then not (is_taken cond status) else is_taken cond status)
 stays cond true status asked = opposite_taken cond status asked
 stays cond false status asked = refl
+
+-- a condition of comparisons
+pub asked_by : (t : IntType) → IsAsked (if is_signed t then Less else Nc)
+asked_by int.Int = AskLess
+asked_by int.UInt = AskNc
+asked_by int.Char = AskNc
+
+pub asked_from : (t : IntType) → IsAsked (if is_signed t then Ge else C)
+asked_from int.Int = AskGe
+asked_from int.UInt = AskC
+asked_from int.Char = AskC
 
 module _ (p : Setting) (lay : IsLaid p) where
   branch_front : (d : ℕ) (o : BinaryOp) (t own : IntType) (left right : Operand) (of : IntType) (when : Bool) (to : ℕ)
@@ -293,17 +304,6 @@ module _ (p : Setting) (lay : IsLaid p) where
       (with_level p r.state r.next all own segment sp sp ps f q (branch yes when to (q + 1)) first ws ws ls r3 m st4
       (λ z j. j) stage4) low
       (at_target ∙ target_is p f to q yes (is_taken stay (r2 2)) when skips))))))))))
-
-  -- a condition of comparisons
-  asked_by : (t : IntType) → IsAsked (if is_signed t then Less else Nc)
-  asked_by int.Int = AskLess
-  asked_by int.UInt = AskNc
-  asked_by int.Char = AskNc
-
-  asked_from : (t : IntType) → IsAsked (if is_signed t then Ge else C)
-  asked_from int.Int = AskGe
-  asked_from int.UInt = AskC
-  asked_from int.Char = AskC
 
   pub branch_less_does : (d : ℕ) (t own : IntType) (left right : Operand) (of : IntType) (when : Bool) (to : ℕ)
       → DoesStep p 5 (step.Branch d (test.Computed (operation.Integers op.Less t own) left right) of when to)

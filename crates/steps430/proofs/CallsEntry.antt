@@ -1,5 +1,6 @@
 -- The step at the entry of a function does its step, where the arguments are copied behind it.
-use Rattle.std.proofs.Common.{◌≡◌, ℕ, zero, suc, ◌+◌, ◌-◌, ◌%◌, ◌<◌, ◌≤◌, refl, sym, ap, ◌∙◌, subst, arith, Bool, true, false, ◌⊎◌, inl, inr, List, [], ◌∷◌, length, map, take, reverse, drop, Option, Some, None, Ok}
+use Rattle.std.proofs.Common.{◌≡◌, ℕ, zero, suc, ◌+◌, ◌-◌, ◌%◌, ◌<◌, ◌≤◌, refl, sym, ap, ◌∙◌, subst, arith, Bool, true, false, ◌⊎◌, inl, inr, List, [], ◌∷◌, length, take, reverse, drop, Option, Some, None}
+use Rattle.std.proofs.lemmas.List.{reverse-append}
 use Rattle.std.proofs.lemmas.Bool.Decides.{nat_tests}
 use Rattle.std.specs.Prelude.{nat_lt, nat_le, pos, slice_get}
 use Rattle.base16.specs.Board.{segment_start}
@@ -16,7 +17,6 @@ use Rattle.ideal430.specs.Settled.{Bytes}
 use Rattle.ideal430.specs.declared.state.IdealEnd.TheVariants.{Running}
 use Rattle.c_run.specs.Actions.{kept, top_of, entered, enter, with_call, with_params}
 use Rattle.c_run.specs.Runs.{Run, ◌>>=◌, ◌>>◌, and_then, pure, changed, mark, mark_by}
-use Rattle.c_values.specs.Values.{all_present}
 use Rattle.c_values.specs.declared.state.Call.{Call as CCall}
 use Rattle.c_values.specs.declared.value.Value.{Value}
 use Rattle.cells430.specs.Cells.{Word, Cells}
@@ -25,32 +25,34 @@ use Rattle.cells430.proofs.Lift.{leads_now, leads_step, leads_weaker}
 use Rattle.ir.specs.declared.control.Control.TheVariants.{At, Calling}
 use Rattle.ir.specs.declared.control.Frame.{Frame}
 use Rattle.ir.specs.declared.form.IrFunction.{IrFunction}
-use Rattle.ir.specs.declared.form.IrLocal.{IrLocal}
 use Rattle.ir.specs.declared.form.StepKind.TheVariants as step
-use Rattle.ir.specs.Machine.{objects_of, first_kind, param_kinds, act_enter}
+use Rattle.ir.specs.Machine.{objects_of, param_kinds, act_enter}
 use Rattle.matching.specs.Matches.{Placed as Alive, placed}
 use Rattle.select430.specs.Code.{constant, service, copies}
-use Rattle.select430.specs.Frames.{word, temporary_at}
+use Rattle.select430.specs.Frames.{word, temporaries_at, temporary_at}
 use Rattle.steps430.specs.Setting.{Setting, FrameFits, function_of, step_at, step_code, code_bytes, IsLaid, StepStands}
 use Rattle.steps430.specs.Holds.{CallHolds, Holds, with_args, calling}
-use Rattle.steps430.specs.Standing.{Stacked, return_to, arguments_at, Stage, IsAt, Entering, StandsAt}
+use Rattle.steps430.specs.Standing.{ReturnsHere, ReturnsBelow, Stacked, return_to, arguments_at, Stage, IsAt, Entering, StandsAt}
 use Rattle.steps430.specs.Follows.{MakesMark, HasEnded, Follows}
-use Rattle.steps430.specs.Calls.{FramesLaid, AreKnown, new_call, DoesEnter}
+use Rattle.steps430.specs.Calls.{FramesLaid, AreKnown, AllFit, new_call, DoesEnter}
 use Rattle.steps430.proofs.FramesGrown.{after_enter, next_after}
 use Rattle.steps430.proofs.FramesLeft.{matches_by}
 use Rattle.steps430.proofs.Moves.{From, from_do, level}
 use Rattle.steps430.proofs.CallsEnter.{has_function, IsEntered, enters_here, enters_above, enters_nowhere}
 use Rattle.steps430.proofs.CallsReturn.{frame_fits}
-use Rattle.steps430.proofs.Steps.{stands_now}
+use Rattle.steps430.proofs.CallsObjects.{HaveScalars, fresh_have}
 use Rattle.steps430.proofs.Values.{number_is, brings_number}
 
 -- ---- the arguments
 
--- the arguments of a call lie in the frame of the caller, from an address on
-abbrev pub HasArguments : Setting → Cells → List Alive → (args : List Value) → (below : List Frame) → (address : ℕ) → Type 0
-HasArguments p all alive args [] a = args ≡ []
-HasArguments p all alive args (b ∷ below) a =
+-- the arguments of a call lie in the frame of the caller, from an address on, where no scalar stands
+abbrev pub HasArguments : Setting → (all own : Cells) → List Alive → (args : List Value) → (below : List Frame) → (address : ℕ)
+    → Type 0
+HasArguments p all own alive args [] a = args ≡ []
+HasArguments p all own alive args (b ∷ below) a =
     (base : ℕ) × (a ≡ base + temporary_at (function_of p b.function) (length b.temporaries))
+    × ((c : ℕ) → base + temporaries_at (function_of p b.function) ≤ c → c < base + (function_of p b.function).frame
+    → own c ≡ None)
     × CallHolds all alive (function_of p b.function) base (with_args args b.temporaries)
 
 -- The code that copies the arguments gives the parameters their values.
@@ -58,22 +60,40 @@ abbrev pub CopiesArguments : Setting → (f n limit : ℕ) → Type 0
 CopiesArguments p f n limit = (args : List Value) (below : List Frame) (first : ℕ) (r : Run) (all own : Cells) (segment sp : ℕ)
     (ps rr m : ℕ → ℕ) (st : Bytes) (y : Meter)
     → Stage p r.state r.next (level f 1 first [] ∷ below) all own segment sp sp ps rr m st → segment_start segment + 4 ≤ sp
-    → all_present args ≡ Ok tt → length args ≡ (function_of p f).params
-    → HasArguments p all (placed p.core (kept r.state)) args below (rr 14)
+    → HaveScalars (objects_of (function_of p f)) (reverse r.state.calls)
+    → length args ≡ (function_of p f).params → AllFit (param_kinds (function_of p f)) args
+    → HasArguments p all own (placed p.core (kept r.state)) args below (rr 14)
     → From p f (rr 0) (copies p.ir (function_of p f) 0 (take n (function_of p f).locals)) (step_at p f 1)
     → Leads limit (at segment ps rr m st (outside r.state.marks (drop r.used p.readings)) y)
     (StandsAt p (At f 1 first [] below) (record r { state = with_params first (param_kinds (function_of p f)) args r.state }))
 
-arguments_held : (p : Setting) (all own all2 : Cells) (alive2 : List Alive) (g base d : ℕ) (args : List Value) (below : List
-    Frame)
-    (cs : List CCall) (w : ℕ) → Stacked p all own g base (calling args below) cs → Holds p.ir all2 alive2 (calling args below) cs
-    → arguments_at p base d below w → (below ≡ [] → args ≡ []) → HasArguments p all2 alive2 args below w
-arguments_held p all own all2 alive2 g base d args [] cs w s h a n = n refl
-arguments_held p all own all2 alive2 g base d args (b ∷ ls) [] w s h a n = absurd s
-arguments_held p all own all2 alive2 g base d args (b ∷ ls) (c ∷ cs) w s h a n = (
-  base,
-  a,
-  subst (λ (x : ℕ). CallHolds all2 alive2 (function_of p b.function) x (with_args args b.temporaries)) s.0.frame h.0,
+-- no scalar stands at the temporaries of the caller
+below_clear : (p : Setting) (all own : Cells) (g sp : ℕ) (l b : Frame) (ls : List Frame) (c d : CCall) (cs : List CCall)
+    → Stacked p all own g sp (l ∷ b ∷ ls) (c ∷ d ∷ cs) → (a : ℕ) → d.frame + temporaries_at (function_of p b.function) ≤ a
+    → a < d.frame + (function_of p b.function).frame → own a ≡ None
+below_clear p all own g sp l b ls c d cs s a low high = from s.1
+  where
+    end : ℕ
+    end = sp + (function_of p l.function).frame
+
+    from : ((ReturnsHere all (return_to p (b ∷ ls)) g end × Stacked p all own g (end + 2) (b ∷ ls) (d ∷ cs))
+        ⊎ ((older : ℕ) × (at : ℕ) × ReturnsBelow all own (return_to p (b ∷ ls)) g end older at
+        × Stacked p all own older (at + 2) (b ∷ ls) (d ∷ cs)))
+        → own a ≡ None
+    from (inl k) = let e = k.1.0.frame in k.1.0.clear a (omega arith) (omega arith)
+    from (inr k) = let e = k.3.0.frame in k.3.0.clear a (omega arith) (omega arith)
+
+arguments_held : (p : Setting) (all own all2 own2 : Cells) (alive2 : List Alive) (g g2 base base2 d : ℕ) (args : List Value)
+    (l : Frame) (below : List Frame) (c : CCall) (cs : List CCall) (w : ℕ) → Stacked p all own g base (calling args below) cs
+    → Stacked p all2 own2 g2 base2 (l ∷ below) (c ∷ cs) → Holds p.ir all2 alive2 (calling args below) cs
+    → arguments_at p base d below w → (below ≡ [] → args ≡ []) → HasArguments p all2 own2 alive2 args below w
+arguments_held p all own all2 own2 alive2 g g2 base base2 d args l [] c cs w s s2 h a n = n refl
+arguments_held p all own all2 own2 alive2 g g2 base base2 d args l (b ∷ ls) c [] w s s2 h a n = absurd s
+arguments_held p all own all2 own2 alive2 g g2 base base2 d args l (b ∷ ls) c (e ∷ cs) w s s2 h a n = (
+  e.frame,
+  subst (λ (x : ℕ). w ≡ x + temporary_at (function_of p b.function) (length b.temporaries)) (sym s.0.frame) a,
+  below_clear p all2 own2 g2 base2 l b ls c e cs s2,
+  h.0,
 )
 
 -- ---- the step
@@ -94,9 +114,8 @@ module _ (p : Setting) (lay : IsLaid p) (laid : FramesLaid p) (n k f d : ℕ) (a
     → ℕ) (st : Bytes) (y : Meter)
     (stage : Stage p r.state r.next (calling args below) all own g (sp + 2) sp ps rr m st)
     (back : all sp ≡ Some (Word (Some (return_to p below)))) (free : own sp ≡ None) (pc : rr 0 ≡ step_at p f 0)
-    (argument : arguments_at p (sp + 2) d below (rr 14)) (present : all_present args ≡ Ok tt) (none_given : below ≡ []
-    → args ≡ [])
-    (count : length args ≡ (function_of p f).params)
+    (argument : arguments_at p (sp + 2) d below (rr 14)) (none_given : below ≡ [] → args ≡ [])
+    (count : length args ≡ (function_of p f).params) (fit : AllFit (param_kinds (function_of p f)) args)
     (copied : CopiesArguments p f n k) where
   abbrev fn : IrFunction
   fn = function_of p f
@@ -219,6 +238,9 @@ module _ (p : Setting) (lay : IsLaid p) (laid : FramesLaid p) (n k f d : ℕ) (a
         | inr i ↦ no_place frame (sym i.0 ∙ place)
       ])
 
+  turned : (frame : ℕ) → reverse (after_enter p f frame r.next r.state).calls ≡ new_call fn f frame r.next ∷ reverse r.state.calls
+  turned frame = reverse-append r.state.calls (new_call fn f frame r.next ∷ [])
+
   -- the run goes on: the arguments are copied
   goes_on : (frame left : ℕ) → frame_below (top_of r.state) fn.frame ≡ Some frame
       → Leads (suc (suc k)) begin (StandsAt p (At f 1 r.next [] below) (ended frame left))
@@ -232,10 +254,12 @@ module _ (p : Setting) (lay : IsLaid p) (laid : FramesLaid p) (n k f d : ℕ) (a
             (StandsAt p (At f 1 r.next [] below) (ended i.frame left)) i.step
             (copied args below r.next (run i.frame left) i.all i.own i.segment i.frame i.pointers i.registers i.m i.settled
             i.meter i.stage i.low
-            present count
-            (arguments_held p all own i.all (placed p.core (kept (after_enter p f i.frame r.next r.state))) g (sp + 2) d args
-            below
-            (reverse r.state.calls) (i.registers 14) stage3.stacked i.held
+            (subst (HaveScalars (objects_of fn)) (sym (turned i.frame)) (fresh_have r.next (objects_of fn))) count fit
+            (arguments_held p all own i.all i.own (placed p.core (kept (after_enter p f i.frame r.next r.state))) g i.segment
+            (sp + 2) i.frame d args (level f 1 r.next []) below (new_call fn f i.frame r.next)
+            (reverse r.state.calls) (i.registers 14) stage3.stacked
+            (subst (Stacked p i.all i.own i.segment i.frame (level f 1 r.next [] ∷ below)) (turned i.frame) i.stage.stacked)
+            i.held
             (subst (arguments_at p (sp + 2) d below) (sym (i.argument ∙ same)) argument) none_given)
             (subst (λ (a : ℕ). From p f a (copies p.ir fn 0 (take n fn.locals)) (step_at p f 1)) (sym i.pc) code)))
         | inr i ↦ no_place frame (sym i.0 ∙ place)
@@ -269,7 +293,7 @@ module _ (p : Setting) (lay : IsLaid p) (laid : FramesLaid p) (n k f d : ℕ) (a
 pub enter_does : (p : Setting) (lay : IsLaid p) (laid : FramesLaid p) (n k : ℕ)
     → ((f node : ℕ) → slice_get (function_of p f).steps 0 ≡ Some (record { node = node; kind = step.Enter n })
     → CopiesArguments p f n k) → DoesEnter p (suc (suc k)) (step.Enter n)
-enter_does p lay laid n k copied f d args below node r t e known h =
+enter_does p lay laid n k copied f d args below node r t e known fit h =
     subst (Follows p (suc (suc k)) (act_enter p.ir p.readings (step.Enter n) f (function_of p f) args below r)) (sym h.is) (from
     h.base h.stage h.point)
   where
@@ -281,21 +305,4 @@ enter_does p lay laid n k copied f d args below node r t e known h =
         enters_follow p lay laid n k f d args below node r e known h.all h.own h.segment h.sp h.pointers h.r h.m h.settled h.meter
         (subst (λ (z : ℕ). Stage p r.state r.next (calling args below) h.all h.own h.segment z h.sp h.pointers h.r h.m h.settled)
         b stage)
-        back free pc (subst (λ (z : ℕ). arguments_at p z d below (h.r 14)) b argument) present none_given count (copied f node e)
-
--- ---- a function without parameters
-
-pub copies_nothing : (p : Setting) (lay : IsLaid p) (f : ℕ) → (function_of p f).params ≡ 0 → CopiesArguments p f 0 0
-copies_nothing p lay f none args below first r all own segment sp ps rr m st y stage low present count there code =
-    subst (λ (j : ℕ). Leads 0 (at segment ps rr m st (outside r.state.marks (drop r.used p.readings)) y)
-    (StandsAt p (At f 1 first [] below) (record r {
-      state = with_params first (map (λ (l : IrLocal). first_kind l.scalars) (take j (function_of p f).locals)) args r.state;
-    })))
-    (sym none) (stands_now p lay 0 f 1 1 first [] [] below r all own segment sp ps rr m st y stage low code)
-
--- a function without parameters is entered
-pub enter_nothing_does : (p : Setting) → IsLaid p → FramesLaid p
-    → ((f node : ℕ) → slice_get (function_of p f).steps 0 ≡ Some (record { node = node; kind = step.Enter 0 })
-    → (function_of p f).params ≡ 0)
-    → DoesEnter p 2 (step.Enter 0)
-enter_nothing_does p lay laid none = enter_does p lay laid 0 0 (λ f node e. copies_nothing p lay f (none f node e))
+        back free pc (subst (λ (z : ℕ). arguments_at p z d below (h.r 14)) b argument) none_given count fit (copied f node e)

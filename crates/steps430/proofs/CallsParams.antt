@@ -1,54 +1,41 @@
--- All arguments are copied, where each is.
-use Rattle.std.proofs.Common.{◌≡◌, ℕ, zero, suc, ◌+◌, ◌*◌, ◌≤◌, refl, sym, ap, ◌∙◌, subst, arith, List, [], ◌∷◌, length, map, take, drop, Some}
+-- All arguments are copied, and so a function is entered.
+use Rattle.std.proofs.Common.{◌≡◌, ℕ, zero, suc, ◌+◌, ◌*◌, ◌≤◌, refl, sym, ap, ◌∙◌, subst, arith, List, [], ◌∷◌, length, map, take, reverse, drop, Some, Result, Ok}
 use Rattle.std.proofs.lemmas.List.{length-take-le}
 use Rattle.std.specs.Prelude.{slice_get}
 use Rattle.base16.specs.Board.{segment_start}
+use Rattle.base16.specs.declared.image.Kind.{Kind}
 use Rattle.isa430.specs.declared.instr.TwoOp.TheVariants.{Mov}
 use Rattle.isa430.specs.declared.instr.Src.TheVariants.{Indexed}
 use Rattle.isa430.specs.declared.instr.Dst.TheVariants.{Indexed as ToIndexed}
 use Rattle.isa430.specs.declared.instr.Instr.TheVariants.{Two}
 use Rattle.core430.specs.Registers.{set_reg}
-use Rattle.run430.specs.Code.{Here}
-use Rattle.ideal430.specs.Ideal.{Ideal, Meter}
+use Rattle.ideal430.specs.Ideal.{Meter}
 use Rattle.ideal430.specs.Settled.{Bytes}
 use Rattle.c_run.specs.Actions.{kept, with_params}
 use Rattle.c_run.specs.Runs.{Run}
 use Rattle.c_values.specs.Objects.{with_scalar}
-use Rattle.c_values.specs.Values.{fit}
+use Rattle.c_values.specs.Values.{fitted, fit_or, fit}
 use Rattle.c_values.specs.declared.state.State.{State}
 use Rattle.c_values.specs.declared.value.Value.{Value}
 use Rattle.cells430.specs.Cells.{Cells}
 use Rattle.cells430.specs.Stretch.{Course, outside, at, Leads}
+use Rattle.core_tree.specs.LawfulCore.{Every}
 use Rattle.ir.specs.declared.control.Control.TheVariants.{At}
 use Rattle.ir.specs.declared.control.Frame.{Frame}
 use Rattle.ir.specs.declared.form.IrLocal.{IrLocal}
-use Rattle.ir.specs.Machine.{first_kind, param_kinds}
-use Rattle.base16.specs.declared.image.Kind.{Kind}
+use Rattle.ir.specs.declared.form.StepKind.TheVariants as step
+use Rattle.ir.specs.Machine.{objects_of, first_kind, param_kinds}
 use Rattle.matching.specs.Matches.{placed}
 use Rattle.select430.specs.Code.{is_char, copies}
 use Rattle.select430.specs.Frames.{word}
 use Rattle.steps430.specs.Setting.{Setting, function_of, step_at, IsLaid}
 use Rattle.steps430.specs.Standing.{Stage, StandsAt}
-use Rattle.steps430.proofs.CallsEntry.{HasArguments, CopiesArguments}
+use Rattle.steps430.specs.Calls.{IsSingle, HasParameters, HaveParameters, AllFit, FramesLaid, DoesEnter}
+use Rattle.steps430.proofs.CallsEntry.{HasArguments, CopiesArguments, enter_does}
+use Rattle.steps430.proofs.CallsObjects.{HaveScalars}
+use Rattle.steps430.proofs.CallsOne.{copies_one}
 use Rattle.steps430.proofs.Moves.{From, from_do, level}
 use Rattle.steps430.proofs.Steps.{stands_now}
-
--- the instruction that copies an argument gives its parameter the value, and the arguments are where they were
-abbrev pub CopiesOne : Setting → (f : ℕ) → Type 1
-CopiesOne p f = (Q : Ideal → Type 0) (n i : ℕ) (l : IrLocal) (v : Value) (args : List Value) (below : List Frame) (first : ℕ)
-    (s : State) (next : ℕ) (all own : Cells) (segment sp : ℕ) (ps rr m : ℕ → ℕ) (st : Bytes) (x : Course) (y : Meter)
-    → slice_get (function_of p f).locals i ≡ Some l → slice_get args i ≡ Some v
-    → Stage p s next (level f 1 first [] ∷ below) all own segment sp sp ps rr m st
-    → HasArguments p all (placed p.core (kept s)) args below (rr 14)
-    → Here p.code p.low p.high (rr 0)
-    (Two Mov (is_char (first_kind l.scalars)) (Indexed 14 (word (2 * i))) (ToIndexed 1 (word l.offset)))
-    → ((all2 own2 : Cells) (m2 : ℕ → ℕ) (st2 : Bytes) (y2 : Meter)
-    → Stage p (with_scalar (first + i) 0 (fit (first_kind l.scalars) v) s) next
-    (level f 1 first [] ∷ below) all2 own2 segment sp sp
-    ps (set_reg rr 0 (rr 0 + 6)) m2 st2
-    → HasArguments p all2 (placed p.core (kept (with_scalar (first + i) 0 (fit (first_kind l.scalars) v) s))) args below (rr 14)
-    → Leads n (at segment ps (set_reg rr 0 (rr 0 + 6)) m2 st2 x y2) Q)
-    → Leads (suc n) (at segment ps rr m st x y) Q
 
 -- setting scalars makes no mark
 scalar_marks : (n : ℕ) (v : Value) (s : State) → (with_scalar n 0 v s).marks ≡ s.marks
@@ -67,29 +54,38 @@ IsRest {A} all i rest = (j : ℕ) (x : A) → slice_get rest j ≡ Some x → sl
 abbrev kinds : List IrLocal → List Kind
 kinds ls = map (λ (l : IrLocal). first_kind l.scalars) ls
 
-module _ (p : Setting) (lay : IsLaid p) (f : ℕ) (one : CopiesOne p f) (args : List Value) (below : List Frame) (first : ℕ)
-    (r : Run)
+abbrev fine : Value → Result Value ℕ
+fine v = Ok v
+
+-- what fits is what the parameter holds
+fits_as : (k : Kind) (v w : Value) → fitted k v ≡ Ok w → fitted k v ≡ Ok (fit k v)
+fits_as k v w e = e ∙ ap fine (sym (ap (fit_or v) e))
+
+module _ (p : Setting) (lay : IsLaid p) (f : ℕ) (args : List Value) (below : List Frame) (first : ℕ) (r : Run)
     (segment sp : ℕ) (ps : ℕ → ℕ) (low : segment_start segment + 4 ≤ sp) (x : Course) where
   -- from a parameter on
-  pub copies_from : (ls : List IrLocal) (vs : List Value) (i : ℕ) (s : State) (all own : Cells) (rr m : ℕ
+  copies_from : (ls : List IrLocal) (vs : List Value) (i : ℕ) (s : State) (all own : Cells) (rr m : ℕ
       → ℕ) (st : Bytes) (y : Meter)
-      → length vs ≡ length ls → IsRest (function_of p f).locals i ls → IsRest args i vs
+      → length vs ≡ length ls → IsRest (function_of p f).locals i ls → IsRest args i vs → Every IsSingle ls → AllFit (kinds ls) vs
+      → HaveScalars (objects_of (function_of p f)) (reverse s.calls)
       → Stage p s r.next (level f 1 first [] ∷ below) all own segment sp sp ps rr m st
-      → HasArguments p all (placed p.core (kept s)) args below (rr 14)
+      → HasArguments p all own (placed p.core (kept s)) args below (rr 14)
       → From p f (rr 0) (copies p.ir (function_of p f) i ls) (step_at p f 1)
       → x ≡ outside (with_params (first + i) (kinds ls) vs s).marks (drop r.used p.readings)
       → Leads (length ls) (at segment ps rr m st x y)
       (StandsAt p (At f 1 first [] below) (record r { state = with_params (first + i) (kinds ls) vs s }))
-  copies_from [] vs i s all own rr m st y same locals rest stage held code is =
+  copies_from [] vs i s all own rr m st y same locals rest single fits have stage held code is =
       subst (λ (c : Course). Leads 0 (at segment ps rr m st c y) (StandsAt p (At f 1 first [] below) (record r { state = s })))
       (sym is)
       (stands_now p lay 0 f 1 1 first [] [] below (record r { state = s }) all own segment sp ps rr m st y stage low code)
-  copies_from (l ∷ ls) [] i s all own rr m st y same locals rest stage held code is = absurd (differ same)
+  copies_from (l ∷ ls) [] i s all own rr m st y same locals rest single fits have stage held code is = absurd (differ same)
     where
       differ : 0 ≡ suc (length ls) → ⊥
       differ e = cc
-  copies_from (l ∷ ls) (v ∷ vs) i s all own rr m st y same locals rest stage held code is =
+  copies_from (l ∷ ls) (v ∷ vs) i s all own rr m st y same locals rest single fits have stage held code is =
       let k : Kind = first_kind l.scalars in
+      let one = single.0 in
+      let kind_is : k ≡ one.0 = ap first_kind one.1 in
       let s2 : State = with_scalar (first + i) 0 (fit k v) s in
       let here_is : i + 0 ≡ i = omega arith in
       let fewer : length vs ≡ length ls = omega arith in
@@ -99,11 +95,12 @@ module _ (p : Setting) (lay : IsLaid p) (f : ℕ) (one : CopiesOne p f) (args : 
       let after : State = with_params (first + i + 1) (kinds ls) vs s2 in
       let moved : with_params (first + suc i) (kinds ls) vs s2 ≡ after = ap
       (λ (j : ℕ). with_params j (kinds ls) vs s2) (sym step) in
-      one (StandsAt p (At f 1 first [] below) (record r { state = after }))
-      (length ls) i l v args below first s r.next all own segment sp
-      ps rr m st x y (subst (λ (j : ℕ). slice_get (function_of p f).locals j ≡ Some l) here_is (locals 0 l refl))
-      (subst (λ (j : ℕ). slice_get args j ≡ Some v) here_is (rest 0 v refl)) stage held c.0
-      (λ all2 own2 m2 st2 y2 stage2 held2.
+      copies_one p lay (StandsAt p (At f 1 first [] below) (record r { state = after })) f i first l k
+      (subst (λ (j : ℕ). slice_get (function_of p f).locals j ≡ Some l) here_is (locals 0 l refl))
+      (one.1 ∙ ap (λ (z : Kind). record { offset = 0; kind = z } ∷ []) (sym kind_is))
+      (length ls) v (fit k v) args below s r.next all own segment sp ps rr m st x y
+      (subst (λ (j : ℕ). slice_get args j ≡ Some v) here_is (rest 0 v refl)) (fits_as k v fits.0.0 fits.0.1) have stage held c.0
+      (λ all2 own2 m2 st2 y2 have2 stage2 held2.
       subst (λ (z : State). Leads (length ls) (at segment ps (set_reg rr 0 (rr 0 + 6)) m2 st2 x y2)
       (StandsAt p (At f 1 first [] below) (record r { state = z }))) moved
       (copies_from ls vs (suc i) s2 all2 own2 (set_reg rr 0 (rr 0 + 6)) m2 st2 y2 fewer
@@ -111,7 +108,7 @@ module _ (p : Setting) (lay : IsLaid p) (f : ℕ) (one : CopiesOne p f) (args : 
       subst (λ (q : ℕ). slice_get (function_of p f).locals q ≡ Some z) more (locals (suc j) z e))
       (λ j z e. let more : i + suc j ≡ suc i + j = omega arith in
       subst (λ (q : ℕ). slice_get args q ≡ Some z) more (rest (suc j) z e))
-      stage2 held2 c.1
+      single.1 fits.1 have2 stage2 held2 c.1
       (is ∙ ap (λ (z : State). outside z.marks (drop r.used p.readings)) (sym moved))))
 
 -- ---- all of them
@@ -128,26 +125,31 @@ take_gets (suc n) [] j x e = e
 take_gets (suc n) (y ∷ xs) zero x e = e
 take_gets (suc n) (y ∷ xs) (suc j) x e = take_gets n xs j x e
 
--- where each argument is copied, all are
-pub copies_all : (p : Setting) → IsLaid p → (f n : ℕ) → CopiesOne p f → (function_of p f).params ≡ n
-    → n ≤ length (function_of p f).locals → CopiesArguments p f n n
-copies_all p lay f n one params few args below first r all own segment sp ps rr m st y stage low present count there code =
+copies_all : (p : Setting) → IsLaid p → (f n : ℕ) → HasParameters (function_of p f) n → CopiesArguments p f n n
+copies_all p lay f n params args below first r all own segment sp ps rr m st y stage low have count fits there code =
     let ls : List IrLocal = take n (function_of p f).locals in
-    let size : length ls ≡ n = length-take-le n (function_of p f).locals few in
+    let size : length ls ≡ n = length-take-le n (function_of p f).locals params.among in
     let start : first + 0 ≡ first = omega arith in
     let s2 : State = with_params (first + 0) (kinds ls) args r.state in
+    let named : kinds ls ≡ param_kinds (function_of p f) =
+    ap (λ (j : ℕ). kinds (take j (function_of p f).locals)) (sym params.count) in
     let same : s2 ≡ with_params first (param_kinds (function_of p f)) args r.state =
     ap (λ (j : ℕ). with_params j (kinds ls) args r.state) start
-    ∙ ap (λ (j : ℕ). with_params first (kinds (take j (function_of p f).locals)) args r.state) (sym params) in
+    ∙ ap (λ (ks : List Kind). with_params first ks args r.state) named in
     subst (λ (z : State). Leads n (at segment ps rr m st (outside r.state.marks (drop r.used p.readings)) y)
     (StandsAt p (At f 1 first [] below) (record r { state = z }))) same
     (subst (λ (j : ℕ). Leads j (at segment ps rr m st (outside r.state.marks (drop r.used p.readings)) y)
     (StandsAt p (At f 1 first [] below) (record r { state = s2 }))) size
-    (copies_from p lay f one args below first r segment sp ps low (outside r.state.marks
-    (drop r.used p.readings)) ls args 0 r.state all own
-    rr m st y (count ∙ params ∙ sym size)
+    (copies_from p lay f args below first r segment sp ps low (outside r.state.marks (drop r.used p.readings)) ls args 0 r.state
+    all own rr m st y (count ∙ params.count ∙ sym size)
     (λ j x e. let z : j ≡ 0 + j = omega arith in
     subst (λ (q : ℕ). slice_get (function_of p f).locals q ≡ Some x) z (take_gets n (function_of p f).locals j x e))
     (λ j x e. let z : j ≡ 0 + j = omega arith in subst (λ (q : ℕ). slice_get args q ≡ Some x) z e)
-    stage there code
+    params.single (subst (λ (ks : List Kind). AllFit ks args) (sym named) fits) have stage there code
     (ap (λ (k : ℕ). outside k (drop r.used p.readings)) (sym (params_marks (first + 0) (kinds ls) args r.state)))))
+
+-- a function is entered, each parameter of which is one scalar
+pub enter_params_does : (p : Setting) → IsLaid p → FramesLaid p → HaveParameters p → (n : ℕ)
+    → DoesEnter p (suc (suc n)) (step.Enter n)
+enter_params_does p lay laid params n =
+    enter_does p lay laid n n (λ f node e. copies_all p lay f n (params f n node e))

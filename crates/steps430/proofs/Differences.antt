@@ -54,10 +54,10 @@ fine z = Ok z
 abbrev wrong : ℕ → Result ℤ ℕ
 wrong n = Err n
 
-same_number : (a b : ℤ) → fine a ≡ fine b → a ≡ b
+pub same_number : (a b : ℤ) → fine a ≡ fine b → a ≡ b
 same_number a b e = cc
 
-no_number : {A : Type 0} (n : ℕ) (b : ℤ) → wrong n ≡ fine b → A
+pub no_number : {A : Type 0} (n : ℕ) (b : ℤ) → wrong n ≡ fine b → A
 no_number n b e = absurd (differ e)
   where
     differ : wrong n ≡ fine b → ⊥
@@ -83,11 +83,11 @@ divided_is z size k e = from (nat_eq size 0) refl (is_zero (int_rem z (pos size)
     from false i true h = ((λ j. grind (arith, nat_tests)), same_number (int_div z (pos size)) k h)
     from false i false h = no_number 9 k h
 
-not_gone : (b : Bool) (x : Result ℤ ℕ) (k : ℤ) → (if b then wrong 6 else x) ≡ fine k → (b ≡ false) × (x ≡ fine k)
+pub not_gone : (b : Bool) (x : Result ℤ ℕ) (k : ℤ) → (if b then wrong 6 else x) ≡ fine k → (b ≡ false) × (x ≡ fine k)
 not_gone true x k e = no_number 6 k e
 not_gone false x k e = (refl, e)
 
-first_false : (b c : Bool) → (b || c) ≡ false → b ≡ false
+pub first_false : (b c : Bool) → (b || c) ≡ false → b ≡ false
 first_false false c e = refl
 first_false true c e = e
 

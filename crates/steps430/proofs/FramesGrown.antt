@@ -43,7 +43,7 @@ args_less : (args : List Value) (ts : List Temporary) → length ts ≤ length (
 args_less [] ts = omega arith
 args_less (v ∷ vs) ts = let k = args_less vs (temporary.Value v ∷ ts) in omega arith
 
-args_held : (f : Cells) (alive : List Placed) (base : ℕ) (args : List Value) (ts : List Temporary)
+pub args_held : (f : Cells) (alive : List Placed) (base : ℕ) (args : List Value) (ts : List Temporary)
     → AreHeld f alive base (with_args args ts) → AreHeld f alive base ts
 args_held f alive base [] ts h = h
 args_held f alive base (v ∷ vs) ts h = (args_held f alive base vs (temporary.Value v ∷ ts) h).1

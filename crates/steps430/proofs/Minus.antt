@@ -47,12 +47,12 @@ abbrev wrong : ℕ → Result Value ℕ
 wrong n = Err n
 
 -- a number that is a value
-record IsCount (x : Result ℤ ℕ) (c : Value) : Type 0 where
+pub record IsCount (x : Result ℤ ℕ) (c : Value) : Type 0 where
   pub count : ℤ
   pub is : x ≡ Ok count
   pub value : Int count ≡ c
 
-count_is : (x : Result ℤ ℕ) (c : Value) → int_value x ≡ Ok c → IsCount x c
+pub count_is : (x : Result ℤ ℕ) (c : Value) → int_value x ≡ Ok c → IsCount x c
 count_is (Ok z) c e = record { count = z; is = refl; value = same (Int z) e }
   where
     same : (v : Value) → fine v ≡ fine c → v ≡ c

@@ -89,7 +89,7 @@ same_numbers int.Char i j = unsigned_same (wrapped i) (wrapped j)
 unsigned_order : (a b : ℕ) → int_lt (pos a) (pos b) ≡ nat_lt a b
 unsigned_order a b = grind (arith, nat_tests, ints)
 
-below_carry : (status a b : ℕ) → is_taken Nc (difference_status false status false a b) ≡ nat_lt a b
+pub below_carry : (status a b : ℕ) → is_taken Nc (difference_status false status false a b) ≡ nat_lt a b
 below_carry status a b = ap not (compare_carry false status a b) ∙ turn a b
   where
     turn : (a b : ℕ) → not (nat_le b a) ≡ nat_lt a b
@@ -132,12 +132,12 @@ pub same_taken : (t : IntType) (i j : ℤ) (status : ℕ)
 same_taken t i j status =
     compare_zero false status (wrapped i) (wrapped j) (wrapped_small i) (wrapped_small j) ∙ sym (same_numbers t i j)
 
-truth_word : (b : Bool) → wrapped (truth b) ≡ flag b
-truth_word true = refl
-truth_word false = refl
+pub flag_word : (b : Bool) → wrapped (truth b) ≡ flag b
+flag_word true = refl
+flag_word false = refl
 
 pub answer : (b c : Bool) (k : ℤ) → good (truth b) ≡ good k → c ≡ b → wrapped k ≡ flag c
-answer b c k e f = ap wrapped (sym (same_number (truth b) k e)) ∙ truth_word b ∙ ap flag (sym f)
+answer b c k e f = ap wrapped (sym (same_number (truth b) k e)) ∙ flag_word b ∙ ap flag (sym f)
 
 -- ---- the step
 

@@ -153,7 +153,7 @@ module _ (p : Setting) (lay : IsLaid p) (Q : Ideal → Type 0) (s : State) (next
       (λ st2 y2 facts wide. go r2 m st2 y2 refl refl (record { nine = refl; ten = refl }) c.1
       (with_regs p s next all own segment base sp ps frames r m r2 st st2 h.stack wide facts h))
 
-  negates : (more : List Part) (n : ℕ) (r m : ℕ → ℕ) (st : Bytes) (y : Meter)
+  pub negates : (more : List Part) (n : ℕ) (r m : ℕ → ℕ) (st : Bytes) (y : Meter)
       → Stage p s next frames all own segment base sp ps r m st → From p f (r 0) (negated ++ more) end
       → Becomes p lay Q s next frames all own segment base sp ps x f end more n r ((65536 - r 12) % 65536)
       → Leads (suc (suc n)) (at segment ps r m st x y) Q

@@ -112,7 +112,7 @@ module _ (f : Object → Object) (number : (o : Object) → (f o).number ≡ o.n
   temporary_same ps (temporary.Place l) =
       ap (λ (x : Option ℕ). if nat_lt l.offset 65536 then pointer_code x l.offset else None) (place_same ps l.object)
 
-  held_same : (g : Cells) (ps : List Placed) (base : ℕ) (ts : List Temporary) → AreHeld g ps base ts
+  pub held_same : (g : Cells) (ps : List Placed) (base : ℕ) (ts : List Temporary) → AreHeld g ps base ts
       → AreHeld g (map (changed f) ps) base ts
   held_same g ps base [] h = tt
   held_same g ps base (t ∷ ts) h = (

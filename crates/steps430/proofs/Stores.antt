@@ -190,13 +190,13 @@ module _ (p : Setting) (limit : ℕ) (t : Ideal) where
 
 -- ---- a scalar of the frame is written
 
-local_low : (ls : List IrLocal) (n : ℕ) → offset_or (slice_get ls n) ≤ locals_end ls
+pub local_low : (ls : List IrLocal) (n : ℕ) → offset_or (slice_get ls n) ≤ locals_end ls
 local_low [] n = omega arith
 local_low (l ∷ ls) zero = omega arith
 local_low (l ∷ ls) (suc n) = let k = local_low ls n in omega arith
 
 -- a cell that belongs to the youngest frame lies in the working segment
-in_segment : (segment sp : ℕ) (ps : ℕ → ℕ) (address offset frame : ℕ) → segment_start segment ≤ sp → sp ≤ address
+pub in_segment : (segment sp : ℕ) (ps : ℕ → ℕ) (address offset frame : ℕ) → segment_start segment ≤ sp → sp ≤ address
     → address ≤ sp + frame → sp + frame + 2 ≤ segment_top segment → segment_top segment ≤ stack_end
     → ((data_start ≤ address) × (address + offset < data_end)) ⊎ ((stack_start ≤ address) × (address + offset < stack_end))
     → Live segment sp ps (address + offset) → address + offset < segment_top segment

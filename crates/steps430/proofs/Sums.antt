@@ -207,7 +207,7 @@ module _ (p : Setting) (Q : Ideal → Type 0) (n : ℕ) (s : State) (next : ℕ)
 
 -- ---- the step
 
-operate_is : (o : BinaryOp) (m : TwoOp) (t : IntType) → IsPlain o m → operate o t ≡ Do (Two m false (Reg 13) (ToReg 12)) ∷ []
+pub operate_is : (o : BinaryOp) (m : TwoOp) (t : IntType) → IsPlain o m → operate o t ≡ Do (Two m false (Reg 13) (ToReg 12)) ∷ []
 operate_is o m t Plus = refl
 operate_is o m t Minus = refl
 operate_is o m t Both = refl

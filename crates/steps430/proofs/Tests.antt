@@ -82,7 +82,7 @@ good b = Ok b
 same_truth : (a b : Bool) → good a ≡ good b → a ≡ b
 same_truth a b e = cc
 
-truth_word : (s : State) (of : IntType) (v : Value) (k : ℤ) (b : Bool) → v ≡ Int k → truth_of s (numbered of v) ≡ Ok b
+pub truth_word : (s : State) (of : IntType) (v : Value) (k : ℤ) (b : Bool) → v ≡ Int k → truth_of s (numbered of v) ≡ Ok b
     → b ≡ not (nat_eq (wrapped k) 0)
 unfolding truth_of
 truth_word s of v k b e ok =
@@ -90,14 +90,14 @@ truth_word s of v k b e ok =
     ap (λ (z : Value). truth_of s (numbered of z)) (sym e) ∙ ok in
     sym (same_truth (not (is_zero (number of k))) b told) ∙ ap not (zero_number of k)
 
-target_is : (p : Setting) (f to q : ℕ) (b c when : Bool) → c ≡ (if when then not b else b)
+pub target_is : (p : Setting) (f to q : ℕ) (b c when : Bool) → c ≡ (if when then not b else b)
     → (if c then step_at p f (q + 1) else step_at p f to) ≡ step_at p f (branch b when to (q + 1))
 target_is p f to q true c true e = ap (λ (z : Bool). if z then step_at p f (q + 1) else step_at p f to) e
 target_is p f to q true c false e = ap (λ (z : Bool). if z then step_at p f (q + 1) else step_at p f to) e
 target_is p f to q false c true e = ap (λ (z : Bool). if z then step_at p f (q + 1) else step_at p f to) e
 target_is p f to q false c false e = ap (λ (z : Bool). if z then step_at p f (q + 1) else step_at p f to) e
 
-stays : (when : Bool) (status w : ℕ) → w < 65536
+pub stays : (when : Bool) (status w : ℕ) → w < 65536
     → is_taken (if when then opposite Nz else Nz) (difference_status false status false w 0)
     ≡ (if when then not (not (nat_eq w 0)) else not (nat_eq w 0))
 stays true status w small = compare_zero false status w 0 small (omega arith) ∙ twice (nat_eq w 0)

@@ -1,5 +1,5 @@
 -- Steps within the limits of whole runs: those that are done wherever the machine stands.
-use Rattle.std.proofs.Common.{◌≡◌, ℕ, ◌+◌, ◌/◌, ◌<◌, ◌≤◌, refl, sym, subst, arith, Bool, true, false, if◌then◌else◌}
+use Rattle.std.proofs.Common.{◌≡◌, ℕ, suc, ◌+◌, ◌/◌, ◌<◌, ◌≤◌, refl, sym, subst, arith, Bool, true, false, if◌then◌else◌}
 use Rattle.std.specs.Prelude.{ℤ}
 use Rattle.base16.specs.declared.image.Kind.{Kind}
 use Rattle.base16.specs.declared.integer.IntType.{IntType}
@@ -46,8 +46,9 @@ use Rattle.steps430.proofs.Emitting.{emit_does}
 use Rattle.steps430.proofs.Clearing.{undefine_does}
 use Rattle.steps430.proofs.Stores.{local_does}
 use Rattle.steps430.proofs.Marked.{KeepsNoneBefore, store_does}
-use Rattle.steps430.proofs.Updates.{plain_computes, update_local_if}
-use Rattle.steps430.proofs.MarkedUpdates.{update_if}
+use Rattle.steps430.proofs.Computing.{plain_computes, helped_computes}
+use Rattle.steps430.proofs.Updates.{saving, leaving, update_local_does}
+use Rattle.steps430.proofs.MarkedUpdates.{update_does}
 use Rattle.steps430.proofs.Products.{IsHelped, Times, Signed_quotient, Quotient, Signed_remainder, Remainder, Left, Signed_right, Right}
 use Rattle.steps430.proofs.Helped.{helped_does}
 use Rattle.steps430.proofs.Besides.{beside_helped_does}
@@ -79,7 +80,7 @@ keep_least k keeping.Nothing h = absurd h
 keep_least k keeping.Stored h = omega arith
 keep_least k keeping.Before h = omega arith
 
-target_least : (to : Target) → 4 ≤ target_bytes to
+pub target_least : (to : Target) → 4 ≤ target_bytes to
 target_least target.Temporary = omega arith
 target_least (target.Known (base.Local n) offset) = omega arith
 target_least (target.Known (base.Global n) offset) = omega arith
@@ -134,26 +135,45 @@ branch_helped_fits d o which t own left right of when to Signed_right =
 branch_helped_fits d o which t own left right of when to Right =
     let a = brought left in let b = brought right in omega arith
 
-update_local_fits : (d n offset : ℕ) (k : Kind) (o : BinaryOp) (i : TwoOp) (t own : IntType) (x : Operand) (keeps : Keep)
-    → IsPlain o i → 7 ≤ most_of (step.UpdateLocal d n offset k (operation.Integers o t own) x keeps)
-update_local_fits d n offset k o i t own x keeps Plus = let a = brought x in omega arith
-update_local_fits d n offset k o i t own x keeps Minus = let a = brought x in omega arith
-update_local_fits d n offset k o i t own x keeps Both = let a = brought x in omega arith
-update_local_fits d n offset k o i t own x keeps Either = let a = brought x in omega arith
-update_local_fits d n offset k o i t own x keeps Any = let a = brought x in omega arith
+-- what an update saves and keeps
+pub kept_few : (keeps : Keep) → saving keeps + leaving keeps ≤ 2
+kept_few keeping.Nothing = omega arith
+kept_few keeping.Stored = omega arith
+kept_few keeping.Before = omega arith
 
-update_fits : (d : ℕ) (to : Target) (k : Kind) (o : BinaryOp) (i : TwoOp) (t own : IntType) (x : Operand) (keeps : Keep)
-    → IsPlain o i → IsKept keeps → 11 ≤ most_of (step.Update d to k (operation.Integers o t own) x keeps)
-update_fits d to k o i t own x keeps Plus h =
-    let a = brought x in let b = keep_least k keeps h in let c = target_least to in omega arith
-update_fits d to k o i t own x keeps Minus h =
-    let a = brought x in let b = keep_least k keeps h in let c = target_least to in omega arith
-update_fits d to k o i t own x keeps Both h =
-    let a = brought x in let b = keep_least k keeps h in let c = target_least to in omega arith
-update_fits d to k o i t own x keeps Either h =
-    let a = brought x in let b = keep_least k keeps h in let c = target_least to in omega arith
-update_fits d to k o i t own x keeps Any h =
-    let a = brought x in let b = keep_least k keeps h in let c = target_least to in omega arith
+update_local_fits : (d n offset : ℕ) (k : Kind) (o : BinaryOp) (t own : IntType) (x : Operand) (keeps : Keep)
+    → 1 + 3 + (saving keeps + leaving keeps) ≤ most_of (step.UpdateLocal d n offset k (operation.Integers o t own) x keeps)
+update_local_fits d n offset k o t own x keeps = let a = brought x in let b = kept_few keeps in omega arith
+
+update_fits : (d : ℕ) (to : Target) (k : Kind) (o : BinaryOp) (t own : IntType) (x : Operand) (keeps : Keep)
+    → 1 + 6 + saving keeps + suc (leaving keeps) ≤ most_of (step.Update d to k (operation.Integers o t own) x keeps)
+update_fits d to k o t own x keeping.Nothing = let a = brought x in let c = target_least to in omega arith
+update_fits d to k o t own x keeping.Stored = let a = brought x in let c = target_least to in omega arith
+update_fits d to k o t own x keeping.Before = let a = brought x in let c = target_least to in omega arith
+
+update_local_helped_fits : (d n offset : ℕ) (k : Kind) (o : BinaryOp) (t own : IntType) (x : Operand) (keeps : Keep)
+    → is_helped o ≡ true
+    → 401 + 3 + (saving keeps + leaving keeps) ≤ most_of (step.UpdateLocal d n offset k (operation.Integers o t own) x keeps)
+update_local_helped_fits d n offset k o t own x keeps e =
+    let a = brought x in let b = kept_few keeps in
+    subst (λ (h : Bool). 401 + 3 + (saving keeps + leaving keeps)
+    ≤ (bring x + operator_bytes o + 10 + keep_bytes k keeps) / 2 + (if h then 400 else 0)) (sym e) (omega arith)
+
+update_helped_fits : (d : ℕ) (to : Target) (k : Kind) (o : BinaryOp) (t own : IntType) (x : Operand) (keeps : Keep)
+    → is_helped o ≡ true
+    → 401 + 6 + saving keeps + suc (leaving keeps) ≤ most_of (step.Update d to k (operation.Integers o t own) x keeps)
+update_helped_fits d to k o t own x keeping.Nothing e =
+    let a = brought x in let c = target_least to in
+    subst (λ (h : Bool). 408 ≤ (target_bytes to + target_bytes to + bring x + operator_bytes o + 8 + 0) / 2
+    + (if h then 400 else 0)) (sym e) (omega arith)
+update_helped_fits d to k o t own x keeping.Stored e =
+    let a = brought x in let c = target_least to in let b = keep_least k keeping.Stored tt in
+    subst (λ (h : Bool). 410 ≤ (target_bytes to + target_bytes to + bring x + operator_bytes o + 8
+    + keep_bytes k keeping.Stored) / 2 + (if h then 400 else 0)) (sym e) (omega arith)
+update_helped_fits d to k o t own x keeping.Before e =
+    let a = brought x in let c = target_least to in let b = keep_least k keeping.Before tt in
+    subst (λ (h : Bool). 410 ≤ (target_bytes to + target_bytes to + bring x + operator_bytes o + 8
+    + keep_bytes k keeping.Before) / 2 + (if h then 400 else 0)) (sym e) (omega arith)
 
 -- ---- the steps
 
@@ -210,7 +230,11 @@ pub data IsSure : StepKind → Type 0 where
   UpdateLocal : (d n offset : ℕ) (k : Kind) (o : BinaryOp) (i : TwoOp) (t own : IntType) (x : Operand) (keeps : Keep)
       → IsPlain o i → IsWide t → IsSure (step.UpdateLocal d n offset k (operation.Integers o t own) x keeps)
   Update : (d : ℕ) (to : Target) (k : Kind) (o : BinaryOp) (i : TwoOp) (t own : IntType) (x : Operand) (keeps : Keep)
-      → IsPlain o i → IsWide t → IsKept keeps → IsSure (step.Update d to k (operation.Integers o t own) x keeps)
+      → IsPlain o i → IsWide t → IsSure (step.Update d to k (operation.Integers o t own) x keeps)
+  UpdateLocalHelping : (d n offset : ℕ) (k : Kind) (o : BinaryOp) (which : Helper) (t own : IntType) (x : Operand) (keeps : Keep)
+      → IsHelped o t which → IsWide t → IsSure (step.UpdateLocal d n offset k (operation.Integers o t own) x keeps)
+  UpdateHelping : (d : ℕ) (to : Target) (k : Kind) (o : BinaryOp) (which : Helper) (t own : IntType) (x : Operand) (keeps : Keep)
+      → IsHelped o t which → IsWide t → IsSure (step.Update d to k (operation.Integers o t own) x keeps)
   Jump : (to : ℕ) → IsSure (step.Jump to)
   Case : (d : ℕ) (of : IntType) (n : ℤ) (to : ℕ) → number of n ≡ n → IsSure (step.Case d of n to)
   Call : (d g n : ℕ) → IsSure (step.Call d g n)
@@ -342,14 +366,27 @@ module _ (p : Setting) (lay : IsLaid p) (laid : FramesLaid p) (out : MeetsOutsid
       (let a = brought x in let b = keep_least k keeps h in let c = target_least to in omega arith)
       (store_does p lay d to k x keeps j)
   does_within s (UpdateLocal d n offset k o i t own x keeps h j) =
-      does_weaker p 7 (most_of (step.UpdateLocal d n offset k (operation.Integers o t own) x keeps))
+      does_weaker p (1 + 3 + (saving keeps + leaving keeps))
+      (most_of (step.UpdateLocal d n offset k (operation.Integers o t own) x keeps))
       (step.UpdateLocal d n offset k (operation.Integers o t own) x keeps)
-      (update_local_fits d n offset k o i t own x keeps h)
-      (update_local_if p lay 1 d n offset k (operation.Integers o t own) x keeps (plain_computes p o i t own h j))
-  does_within s (Update d to k o i t own x keeps h j l) =
-      does_weaker p 11 (most_of (step.Update d to k (operation.Integers o t own) x keeps)) (step.Update d to k
-      (operation.Integers o t own) x keeps) (update_fits d to k o i t own x keeps h l)
-      (update_if p lay 1 d to k (operation.Integers o t own) x keeps (plain_computes p o i t own h j))
+      (update_local_fits d n offset k o t own x keeps)
+      (update_local_does p lay 1 d n offset k (operation.Integers o t own) x keeps (plain_computes p o i t own h j))
+  does_within s (Update d to k o i t own x keeps h j) =
+      does_weaker p (1 + 6 + saving keeps + suc (leaving keeps))
+      (most_of (step.Update d to k (operation.Integers o t own) x keeps)) (step.Update d to k
+      (operation.Integers o t own) x keeps) (update_fits d to k o t own x keeps)
+      (update_does p lay 1 d to k (operation.Integers o t own) x keeps (plain_computes p o i t own h j))
+  does_within s (UpdateLocalHelping d n offset k o which t own x keeps h j) =
+      does_weaker p (401 + 3 + (saving keeps + leaving keeps))
+      (most_of (step.UpdateLocal d n offset k (operation.Integers o t own) x keeps))
+      (step.UpdateLocal d n offset k (operation.Integers o t own) x keeps)
+      (update_local_helped_fits d n offset k o t own x keeps (helped_is o t which h))
+      (update_local_does p lay 401 d n offset k (operation.Integers o t own) x keeps (helped_computes p lay o which t own h j))
+  does_within s (UpdateHelping d to k o which t own x keeps h j) =
+      does_weaker p (401 + 6 + saving keeps + suc (leaving keeps))
+      (most_of (step.Update d to k (operation.Integers o t own) x keeps)) (step.Update d to k
+      (operation.Integers o t own) x keeps) (update_helped_fits d to k o t own x keeps (helped_is o t which h))
+      (update_does p lay 401 d to k (operation.Integers o t own) x keeps (helped_computes p lay o which t own h j))
   does_within s (Jump to) =
       does_weaker p 1 (most_of (step.Jump to)) (step.Jump to) (jump_fits to)
       (jump_does p lay to)

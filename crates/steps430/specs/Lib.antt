@@ -6,3 +6,4 @@ pub mod Follows
 pub mod Outside
 pub mod Calls
 pub mod Whole
+pub mod Lying
