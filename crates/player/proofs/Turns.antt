@@ -33,7 +33,6 @@ use Rattle.world.specs.History.{Attempt, Story, taken_in, with_taken, after}
 use Rattle.world.specs.World.{WorldState, Spends}
 use Rattle.world.specs.declared.history.Record.{Record}
 use Rattle.world.specs.declared.history.Record.TheVariants.{Read, Commit}
-use Rattle.player.specs.Form.{cycles_in}
 use Rattle.player.specs.Playing.{Origin, marks_of, commits_of, kept_in, IsShut, story_in, HasRecovered, IsRunning, IsAny, Always, AlwaysNext, IsPrinted, readings_so_far, OnGoing, HasEnded, IsCause, now, Keeps}
 use Rattle.player.specs.Ticks.{Cursor, committed as committed_at, EndsWithin, StopsWithin}
 use Rattle.player.specs.Turning.{IsInCycle, RestsAt, HasCome, Goes, IsCut, Ends, Turned, turn_of, read_records, sets_behind, commit_records, instrs_after, IsServed}
@@ -550,7 +549,8 @@ served-turned o instrs here n registers registers1 registers2 work work2 records
         (committed-commits registers2 work2 (words_of f2.words) w1 w2 is)
         (committed-marks registers2 work2 (words_of f2.words) w1 w2 is) (marks_later (Some c) st)
         (omega (arith, number, a, v.serves.passes.spent, k.commits_later)) later st.log
-        (ticks-within work.since g.cursor.span w.spent w.left g.cursor.at w2.spent w2.left took g.since passed.whole took_is) placed (led c q)
+        (ticks-within work.since g.cursor.span w.spent w.left g.cursor.at w2.spent w2.left took g.since passed.whole took_is)
+        placed (led c q)
         (λ start s. claim-map start (readings_so_far (story_in o behind)) (here + 1)
         (HasStood end (Some c) work.since registers2 work2 (words_of f2.words) w2)
         (λ t. HasRecovered S o.world.period (words_of f2.words) t
