@@ -6,7 +6,6 @@ use Rattle.base16.specs.declared.integer.IntType.{IntType}
 use Rattle.base16.specs.declared.operator.BinaryOp.{BinaryOp}
 use Rattle.base16.specs.declared.operator.BinaryOp.TheVariants as op
 use Rattle.isa430.specs.declared.instr.TwoOp.{TwoOp}
-use Rattle.isa430.specs.declared.instr.Cond.TheVariants.{Less}
 use Rattle.isa430.specs.declared.instr.Src.TheVariants.{Reg}
 use Rattle.isa430.specs.declared.instr.Dst.TheVariants.{Reg as ToReg}
 use Rattle.isa430.specs.declared.instr.Instr.TheVariants.{Two}

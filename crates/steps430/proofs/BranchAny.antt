@@ -5,6 +5,7 @@ use Rattle.std.proofs.lemmas.List.{append_assoc}
 use Rattle.std.specs.Prelude.{nat_eq}
 use Rattle.base16.specs.Integer.{wrapped}
 use Rattle.base16.specs.declared.integer.IntType.{IntType}
+use Rattle.base16.specs.declared.operator.BinaryOp.{BinaryOp}
 use Rattle.isa430.specs.declared.instr.Cond.{Cond}
 use Rattle.isa430.specs.declared.instr.Cond.TheVariants.{Nz}
 use Rattle.isa430.specs.declared.instr.TwoOp.TheVariants.{Cmp}
@@ -17,6 +18,7 @@ use Rattle.core430.specs.Instructions.{is_taken}
 use Rattle.core430.specs.Registers.{set_reg}
 use Rattle.core430.specs.declared.operand.Place.TheVariants.{InRegister, Given}
 use Rattle.run430.proofs.Operands.{to_register, constant as generated}
+use Rattle.rt430.specs.declared.words.Helper.{Helper}
 use Rattle.c_run.specs.Actions.{kept}
 use Rattle.c_values.specs.Pointers.{truth_of, difference}
 use Rattle.c_values.specs.Values.{numbered}
@@ -37,20 +39,24 @@ use Rattle.matching.specs.Laid.{IsMade}
 use Rattle.matching.specs.Matches.{Placed, placed}
 use Rattle.select430.specs.declared.part.Part.{Part}
 use Rattle.select430.specs.declared.part.Part.TheVariants.{GoUnless}
-use Rattle.select430.specs.Code.{bring, opposite, against_zero, perform, left_register, right_register, test_flags, test_where}
+use Rattle.select430.specs.Code.{bring, opposite, against_zero, operate, perform, left_register, right_register, test_flags, test_where}
 use Rattle.steps430.specs.Setting.{Setting, function_of, step_at, IsLaid}
 use Rattle.steps430.specs.Holds.{HasCode, value_code}
 use Rattle.steps430.specs.Standing.{StandsAt}
+use Rattle.steps430.specs.Follows.{DoesStep}
 use Rattle.steps430.proofs.Branches.{goes_unless}
-use Rattle.steps430.proofs.Computing.{Computes, difference_computes}
+use Rattle.steps430.proofs.Computing.{Anything, Computes, helped_computes, difference_computes}
 use Rattle.steps430.proofs.Differences.{counting, AreClose}
-use Rattle.steps430.proofs.Finding.{DoesWhere, FindsTwo}
+use Rattle.steps430.proofs.Finding.{DoesWhere, FindsTwo, where_always}
 use Rattle.steps430.proofs.Minus.{count_is}
 use Rattle.steps430.proofs.Moves.{From, from_do, level, with_regs, with_level}
 use Rattle.steps430.proofs.Outcomes.{depth_follows, asked_follows}
 use Rattle.steps430.proofs.Pairs.{operands_follow, brings_two}
+use Rattle.steps430.proofs.Products.{IsHelped, Times, Signed_quotient, Quotient, Signed_remainder, Remainder, Left, Signed_right, Right}
 use Rattle.steps430.proofs.Steps.{begins, falls, stands_next}
+use Rattle.steps430.proofs.Sums.{are_numbers}
 use Rattle.steps430.proofs.Tests.{truth_word, target_is, stays}
+use Rattle.steps430.proofs.Words.{IsWide}
 
 -- What an operation computes is compared with 0, and its word tells whether it is true.
 pub record TestsZero (p : Setting) (op : Operation) (IsFine : State → Value → Value → Type 0) : Type 0 where
@@ -59,6 +65,45 @@ pub record TestsZero (p : Setting) (op : Operation) (IsFine : State → Value �
   pub tells : (s : State) (next : ℕ) (of : IntType) (a b c : Value) (yes : Bool) (w : ℕ) → IsMade p.core next (kept s)
       → IsFine s a b → computed s op a b ≡ Ok c → truth_of s (numbered of c) ≡ Ok yes
       → HasCode (value_code (placed p.core (kept s)) c) w → yes ≡ not (nat_eq w 0)
+
+-- ---- operators on integers
+
+pub integers_test : (p : Setting) (o : BinaryOp) (t own : IntType)
+    → test_flags (operation.Integers o t own) ≡ operate o t ++ against_zero ∷ [] → test_where (operation.Integers o t own) ≡ Nz
+    → TestsZero p (operation.Integers o t own) Anything
+integers_test p o t kind flags condition = record {
+  flags = flags;
+  condition = condition;
+  tells = λ s next of a b c yes w made fine e sure has.
+      let num = are_numbers o t kind a b c e in
+      let is : w ≡ wrapped num.result =
+      subst (λ (z : Value). HasCode (value_code (placed p.core (kept s)) z) w) num.is_result has in
+      truth_word s of c num.result yes num.is_result sure ∙ ap (λ (z : ℕ). not (nat_eq z 0)) (sym is);
+}
+
+helped_flags : (o : BinaryOp) (t own : IntType) (which : Helper) → IsHelped o t which
+    → test_flags (operation.Integers o t own) ≡ operate o t ++ against_zero ∷ []
+helped_flags o t own which Times = refl
+helped_flags o t own which Signed_quotient = refl
+helped_flags o t own which Quotient = refl
+helped_flags o t own which Signed_remainder = refl
+helped_flags o t own which Remainder = refl
+helped_flags o t own which Left = refl
+helped_flags o t own which Signed_right = refl
+helped_flags o t own which Right = refl
+
+helped_where : (o : BinaryOp) (t own : IntType) (which : Helper) → IsHelped o t which
+    → test_where (operation.Integers o t own) ≡ Nz
+helped_where o t own which Times = refl
+helped_where o t own which Signed_quotient = refl
+helped_where o t own which Quotient = refl
+helped_where o t own which Signed_remainder = refl
+helped_where o t own which Remainder = refl
+helped_where o t own which Left = refl
+helped_where o t own which Signed_right = refl
+helped_where o t own which Right = refl
+
+-- ---- the step
 
 module _ (p : Setting) (lay : IsLaid p) where
   pub branch_if : (cost d : ℕ) (op : Operation) (left right : Operand) (of : IntType) (when : Bool) (to : ℕ)
@@ -153,3 +198,13 @@ module _ (p : Setting) (lay : IsLaid p) where
             subst (λ (z : Value). HasCode (value_code (placed p.core (kept s)) z) w) (sym n.value) has in
             truth_word s of c n.count yes (sym n.value) sure ∙ ap (λ (z : ℕ). not (nat_eq z 0)) (sym is);
       })
+
+  pub branch_helped_does : (d : ℕ) (o : BinaryOp) (t own : IntType) (left right : Operand) (of : IntType) (when : Bool) (to : ℕ)
+      (which : Helper) → IsHelped o t which → IsWide t
+      → DoesStep p 406 (step.Branch d (test.Computed (operation.Integers o t own) left right) of when to)
+  branch_helped_does d o t kind left right of when to which helped wide =
+      where_always p 406 (step.Branch d (test.Computed (operation.Integers o t kind) left right) of when to)
+      (FindsTwo left right Anything) (λ s first ts a b us ws g k. tt)
+      (branch_if 401 d (operation.Integers o t kind) left right of when to Anything
+      (helped_computes p lay o which t kind helped wide)
+      (integers_test p o t kind (helped_flags o t kind which helped) (helped_where o t kind which helped)))

@@ -52,7 +52,7 @@ use Rattle.steps430.proofs.MarkedUpdates.{update_does}
 use Rattle.steps430.proofs.Products.{IsHelped, Times, Signed_quotient, Quotient, Signed_remainder, Remainder, Left, Signed_right, Right}
 use Rattle.steps430.proofs.Helped.{helped_does}
 use Rattle.steps430.proofs.Besides.{beside_helped_does}
-use Rattle.steps430.proofs.Tests.{branch_helped_does}
+use Rattle.steps430.proofs.BranchAny.{branch_helped_does}
 use Rattle.steps430.proofs.CallsMade.{call_does}
 use Rattle.steps430.proofs.CallsReturn.{return_does, return_nothing_does}
 use Rattle.steps430.proofs.Results.{result_kept_does, result_left_does}
