@@ -8,5 +8,6 @@ pub mod Making
 pub mod Metered
 pub mod Outside
 pub mod SameBytes
+pub mod Spacing
 pub mod Storing
 pub mod Whole

@@ -81,14 +81,14 @@ laid_append (p ∷ ps) qs h k x = (h.0, each_append (AreApart p) ps qs h.1 x.0, 
 -- ---- objects of types, at rising addresses
 
 -- each of these types has room from its address to the next one
-abbrev Ascends : List Struct → (address : ℕ → ℕ) → ℕ → List Ty → Type 0
+abbrev pub Ascends : List Struct → (address : ℕ → ℕ) → ℕ → List Ty → Type 0
 Ascends structs address i [] = Unit {0}
 Ascends structs address i (t ∷ ts) = (address i + size_of structs t ≤ address (i + 1)) × Ascends structs address (i + 1) ts
 
 scalars_of : List Struct → Ty → List Slot
 scalars_of structs t = (layout structs t).slots
 
-climbs : (structs : List Struct) (address : ℕ → ℕ) (i j : ℕ) (ts : List Ty) → j ≡ i + length ts → Ascends structs address i ts
+pub climbs : (structs : List Struct) (address : ℕ → ℕ) (i j : ℕ) (ts : List Ty) → j ≡ i + length ts → Ascends structs address i ts
     → address i ≤ address j
 climbs structs address i j [] e h = let same : address i ≡ address j = ap address (omega arith) in omega arith
 climbs structs address i j (t ∷ ts) e h =
@@ -232,14 +232,14 @@ pub row_of_types : (core : Core) (gs : List Global) → map (layout_in (layouts 
 row_of_types core [] = refl
 row_of_types core (g ∷ gs) = ap (λ (ls : List Layout). global_layout core g ∷ ls) (row_of_types core gs)
 
-globals_ascend : (core : Core) → Ascends core.structs (global_address core) 0 (types_of core.globals)
+pub globals_ascend : (core : Core) → Ascends core.structs (global_address core) 0 (types_of core.globals)
 unfolding global_address
 globals_ascend core =
     subst (λ (row : List Layout). Ascends core.structs (λ n. data_start + start_of row n) 0 (types_of core.globals))
     (row_of_types core core.globals) (ascends core.structs data_start (types_of core.globals) [] (types_of core.globals) 0
     refl refl)
 
-first_variable : (core : Core) → data_start ≤ global_address core 0
+pub first_variable : (core : Core) → data_start ≤ global_address core 0
 unfolding global_address
 first_variable core = omega arith
 
@@ -250,11 +250,11 @@ slots_of_types structs (g ∷ gs) = ap (λ (xs : List (List Slot)). slots_of str
 
 -- ---- locals
 
-locals_ascend : (structs : List Struct) (frame : ℕ) (f : Function) → Ascends structs (λ n. frame + local_offset structs f n) 0
+pub locals_ascend : (structs : List Struct) (frame : ℕ) (f : Function) → Ascends structs (λ n. frame + local_offset structs f n) 0
     (f.params ++ f.locals)
 locals_ascend structs frame f = ascends structs frame (f.params ++ f.locals) [] (f.params ++ f.locals) 0 refl refl
 
-frame_end : (structs : List Struct) (f : Function) → local_offset structs f (length (f.params ++ f.locals)) ≤ frame_bytes
+pub frame_end : (structs : List Struct) (f : Function) → local_offset structs f (length (f.params ++ f.locals)) ≤ frame_bytes
     structs f
 frame_end structs f =
     let row : List Layout = object_layouts structs f in
@@ -266,7 +266,7 @@ frame_end structs f =
 
 -- ---- the objects of a call
 
-made_length : (first : ℕ) (xs : List (List Slot)) (os : List Object) → AreMade first xs os → length xs ≡ length os
+pub made_length : (first : ℕ) (xs : List (List Slot)) (os : List Object) → AreMade first xs os → length xs ≡ length os
 made_length first [] [] h = refl
 made_length first [] (o ∷ os) h = absurd h
 made_length first (x ∷ xs) [] h = absurd h

@@ -4,3 +4,4 @@ pub mod Laws
 pub mod Matches
 pub mod Said
 pub mod Simulates
+pub mod Spacing

@@ -9,9 +9,11 @@ ghost use Rattle.core_tree.specs.declared.program.Core.{Core};
 ghost use Rattle.ideal430.specs.Ideal.{Ideal, Meter};
 ghost use Rattle.core_tree.specs.declared.program.Function.{Function};
 ghost use Rattle.matching.specs.Laws.{AccessedStandsAlone, CellsMatch, ClearedIsCovered, ClearedIsMade, ElsewhereIsCovered, EnteredIsCovered, EnteredIsMade, LaterIsMade, LeftIsCovered, LeftIsMade, LocalsLieInFrames, MarkIsMatched, MatchesAlong, OutputSetsCells, SharesNoByte, StampSetsCells, StartIsMade, StoreKeepsCovered, StoreSetsCell, StoredIsMade, VariablesLieInData, WordsAreAligned};
+ghost use Rattle.matching.specs.Spacing.{ObjectsLieWhole};
 
 use core_layout::{
-    frames_lie_apart, scalars_are_aligned, scalars_fit, scalars_rise, stamps_lie_behind,
+    frames_lie_apart, scalars_are_aligned, scalars_fit, scalars_rise, sizes_are_even,
+    stamps_lie_behind,
 };
 
 /// Where the words of the machine match a state by settled bytes alone, so does every memory that goes along with the machine.
@@ -54,6 +56,17 @@ pub fn objects_lie_in_their_parts()
 {
     scalars_fit();
     scalars_rise();
+    stamps_lie_behind();
+}
+
+/// Where the stamps begin in the data, objects lie whole in the stack or in the data, and no two share a byte, not even a pad
+/// byte.
+pub fn objects_lie_whole()
+    ensures { (core : Core) → (next : ℕ) → (s : Saved) → ObjectsLieWhole core next s }
+{
+    scalars_fit();
+    sizes_are_even();
+    frames_lie_apart();
     stamps_lie_behind();
 }
 

@@ -26,12 +26,13 @@ use Rattle.ir.specs.declared.form.StepKind.TheVariants as step
 use Rattle.ir.specs.declared.form.Test.TheVariants as test
 use Rattle.matching.specs.Laid.{IsMade}
 use Rattle.matching.specs.Matches.{Placed, placed, address_of}
+use Rattle.matching.specs.Spacing.{AreSpaced}
 use Rattle.select430.specs.declared.part.Part.{Part}
 use Rattle.select430.specs.declared.part.Part.TheVariants.{Do}
 use Rattle.select430.specs.Code.{flags, holds_where, truth_where}
 use Rattle.steps430.specs.Setting.{Setting, IsLaid}
 use Rattle.steps430.specs.Holds.{is_missing, HasCode, value_code}
-use Rattle.steps430.specs.Lying.{StaysInside, AreSpaced, ObjectsLie}
+use Rattle.steps430.specs.Lying.{StaysInside, ObjectsLie}
 use Rattle.steps430.proofs.Reading.{same_address}
 use Rattle.steps430.proofs.Conditions.{flag}
 use Rattle.steps430.proofs.Orders.{flag_word, below_carry}

@@ -75,3 +75,4 @@ pub mod WithinFound
 pub mod BranchPlus
 pub mod WithinCalls
 pub mod WithinScaled
+pub mod Lying

@@ -46,13 +46,14 @@ use Rattle.ir.specs.Machine.{act, on_test, branch}
 use Rattle.ir.specs.Table.{taken}
 use Rattle.matching.specs.Laid.{IsMade}
 use Rattle.matching.specs.Matches.{Placed, placed, pointer_code}
+use Rattle.matching.specs.Spacing.{LiesWhole}
 use Rattle.select430.specs.Frames.{temporaries_at}
 use Rattle.select430.specs.declared.part.Part.{Part}
 use Rattle.select430.specs.declared.part.Part.TheVariants.{GoUnless}
 use Rattle.select430.specs.Code.{bring, keep, against_zero, truth_where, opposite}
 use Rattle.steps430.specs.Setting.{Setting, function_of, step_at, IsNamed, operand_bases, IsLaid}
 use Rattle.steps430.specs.Holds.{is_missing, HasCode, value_code}
-use Rattle.steps430.specs.Lying.{StaysInside, LiesWhole, ObjectsLie}
+use Rattle.steps430.specs.Lying.{StaysInside, ObjectsLie}
 use Rattle.steps430.specs.Standing.{StandsAt, Stage}
 use Rattle.steps430.proofs.Moves.{From, from_do, level, with_level}
 use Rattle.steps430.proofs.Outcomes.{Gives, operand_follows, depth_follows, asked_follows}
