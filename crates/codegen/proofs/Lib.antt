@@ -1,0 +1,16 @@
+pub mod Lists
+pub mod Labels
+pub mod Steps
+pub mod Bounds
+pub mod Frames
+pub mod Routines
+pub mod Objects
+pub mod Calls
+pub mod Chart
+pub mod Data
+pub mod Named
+pub mod Sizes
+pub mod Assembled
+pub mod Locals
+pub mod Laid
+pub mod Values
