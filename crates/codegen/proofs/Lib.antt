@@ -14,3 +14,5 @@ pub mod Assembled
 pub mod Locals
 pub mod Laid
 pub mod Values
+pub mod First
+pub mod Starts
