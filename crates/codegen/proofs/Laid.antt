@@ -21,7 +21,6 @@ use Rattle.core_tree.specs.LawfulCore.{Every}
 use Rattle.core_tree.specs.declared.program.Core.{Core}
 use Rattle.core_tree.specs.declared.types.Ty.{Ty}
 use Rattle.asm430.specs.declared.item.Item.{Item}
-use Rattle.asm430.specs.Assembly.{address}
 use Rattle.placed430.specs.Assembled.{IsAssembled}
 use Rattle.placed430.proofs.Assembled.{placed, part_size}
 use Rattle.rt430.specs.declared.words.Helper.{Helper}

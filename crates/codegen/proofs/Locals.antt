@@ -6,7 +6,6 @@ use Rattle.base16.specs.Board.{segment_bytes, segment_count, segment_start, most
 use Rattle.base16.specs.Placement.{frame_below}
 use Rattle.c_meaning.specs.After.{start, objects_of}
 use Rattle.c_run.specs.Actions.{kept}
-use Rattle.c_values.specs.Objects.{wide}
 use Rattle.c_values.specs.declared.state.Call.{Call}
 use Rattle.c_values.specs.declared.state.Object.{Object}
 use Rattle.c_values.specs.declared.state.State.{State}
