@@ -104,7 +104,7 @@ local_stands p lay s all own segment sp f q first n ts ls base o k (c ∷ cs) e 
     let function : offset_in p.core.structs (slice_get p.core.functions c.function) n
     ≡ offset_in p.core.structs (slice_get p.core.functions f) n =
     ap (λ (g : ℕ). offset_in p.core.structs (slice_get p.core.functions g) n) h.0.function in
-    let local = lay.locals f n in
+    let local = lay.locals f n few in
     let plain : 0 + n ≡ n = omega arith in
     sym is ∙ ap (local_address p.core c) plain
     ∙ ap (λ (b : ℕ). b + offset_in p.core.structs (slice_get p.core.functions c.function) n) frame
@@ -143,7 +143,7 @@ local_found p lay s next all own segment sp f q first n ts ls (c ∷ cs) made e 
     let place : local_address p.core c (0 + n) ≡ sp + offset_or (slice_get (function_of p f).locals n) =
     ap (local_address p.core c) plain
     ∙ ap (λ (b : ℕ). b + offset_in p.core.structs (slice_get p.core.functions c.function) n) h.0.frame
-    ∙ ap (λ (b : ℕ). sp + b) (function ∙ sym (lay.locals f n)) in
+    ∙ ap (λ (b : ℕ). sp + b) (function ∙ sym (lay.locals f n few)) in
     ap (address_of alive) (sym x.number) ∙ is ∙ ap (λ (a : ℕ). Some a) place
 
 pub global_found : (p : Setting) (lay : IsLaid p) (s : State) (next n : ℕ) → IsMade p.core next (kept s)

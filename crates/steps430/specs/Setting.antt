@@ -169,7 +169,7 @@ pub record IsLaid (p : Setting) : Type 0 where
   pub frames : (g : ℕ) (fn : IrFunction) → slice_get p.ir.functions g ≡ Some fn → FrameFits fn
   -- variables and locals have the addresses that the program gives them
   pub globals : (n : ℕ) → n < length p.core.globals → address_or (slice_get p.ir.globals n) ≡ global_address p.core n
-  pub locals : (g n : ℕ)
+  pub locals : (g n : ℕ) → n < length (function_of p g).locals
       → offset_or (slice_get (function_of p g).locals n) ≡ offset_in p.core.structs (slice_get p.core.functions g) n
   -- variables are numbered from 0 on, and a scalar that is accessed stands alone
   pub numbered : (next : ℕ) (s : Saved) → IsMade p.core next s
