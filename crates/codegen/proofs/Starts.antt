@@ -113,7 +113,7 @@ module _ (routine : Helper → List ℕ) (core : Core) (ir : Ir) (code : List �
   own_cells = own core fit rise even apart behind small.variables
 
   abbrev meter : Meter
-  meter = record { ticks = 0; entries = 0; commits = 0; length = 0; period = 0 }
+  meter = record { ticks = 0; entries = 0; commits = 0; due_ticks = 0; due_entries = 0; length = 0; period = 0 }
 
   ground : Ground code_start hi 0 first_stack_pointer
   ground = record { low = omega arith; high = top; base = omega arith; top = omega arith; last = omega arith; even = refl }
