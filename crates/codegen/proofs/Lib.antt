@@ -16,3 +16,4 @@ pub mod Laid
 pub mod Values
 pub mod First
 pub mod Starts
+pub mod Stops

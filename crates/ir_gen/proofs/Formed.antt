@@ -38,7 +38,7 @@ use Rattle.ir_gen.proofs.Owning.{owned_at, function_owned}
 use Rattle.ir_gen.proofs.Naming.{HasScope, named_at}
 use Rattle.ir_gen.proofs.StmtNaming.{function_named}
 use Rattle.ir_gen.proofs.Shortness.{short, program_cost}
-use Rattle.ir_gen.proofs.Served.{FormOf, same_states}
+use Rattle.ir_gen.proofs.Served.{FormOf, same_states, same_stop}
 
 abbrev slots_in : IrLocal → List Slot
 slots_in l = l.scalars
@@ -266,6 +266,7 @@ form_serves core h =
     let form = form_is core h in
     record {
       same = same_states core (form_of core) form;
+      stops = same_stop core (form_of core) form;
       functions = λ n x e. (function_of core.structs x, function_in core.structs core.functions n x e, serves_of core x);
       many = functions_many core.structs core.functions;
       main = h.main;

@@ -14,6 +14,7 @@ use Rattle.ir.specs.declared.form.Ir.{Ir}
 use Rattle.ir.specs.declared.form.IrFunction.{IrFunction}
 use Rattle.ir.specs.declared.form.IrState.{IrState}
 use Rattle.ir.specs.declared.form.IrState.TheVariants as form
+use Rattle.ir.specs.Ends.{IsFine}
 use Rattle.ir.specs.Machine as m
 use Rattle.ir.specs.Laws.{MakesStepsOnce}
 use Rattle.ir_gen.specs.Form.{locals_from, globals_from}
@@ -38,6 +39,11 @@ abbrev pub SameStates : Core → Ir → Type 0
 SameStates core ir = (readings : List Reading) (s : ℕ) → IsDefined (meaning.after core readings s)
     → m.after ir readings s ≡ as_form (meaning.after core readings s)
 
+-- it also stops as the program's does, with as many readings taken, wherever no rule is broken
+abbrev pub SameStops : Core → Ir → Type 0
+SameStops core ir = (readings : List Reading) (s : ℕ) → IsFine (meaning.stop_at core readings s)
+    → m.stop_at ir readings s ≡ meaning.stop_at core readings s
+
 -- a function of the form for a function of the program
 pub record ServesFunction (core : Core) (x : Function) (fn : IrFunction) : Type 0 where
   -- it has the same frame, and in it the parameters and locals where they stand
@@ -54,6 +60,7 @@ pub record ServesFunction (core : Core) (x : Function) (fn : IrFunction) : Type 
 
 pub record Serves (core : Core) (ir : Ir) : Type 0 where
   pub same : SameStates core ir
+  pub stops : SameStops core ir
   -- the functions in order
   pub functions : (n : ℕ) (x : Function) → slice_get core.functions n ≡ Some x
       → (fn : IrFunction) × (slice_get ir.functions n ≡ Some fn) × ServesFunction core x fn
