@@ -35,6 +35,7 @@ use Rattle.matching.specs.Matches.{placed as alive, offset_in, address_of}
 use Rattle.matching.proofs.Making.{left_made}
 use Rattle.cells430.specs.Cells.{Cells, IsLayout}
 use Rattle.ir.specs.Machine.{objects_of}
+use Rattle.select430.specs.Code.{code_of_step}
 use Rattle.select430.specs.Frames.{address_or, offset_or, temporaries_at}
 use Rattle.select430.specs.Laying.{Stands}
 use Rattle.select430.proofs.Standing.{stands}
@@ -47,6 +48,7 @@ use Rattle.codegen.specs.Words.{global_words}
 use Rattle.codegen.specs.Laid.{setting_of, IsProgram}
 use Rattle.codegen.proofs.Assembled.{assembled, short_code}
 use Rattle.codegen.proofs.Bounds.{step_within}
+use Rattle.codegen.proofs.Called.{placed_for, have_routines}
 use Rattle.codegen.proofs.Calls.{served, at_number, local_stands, calls_in, entered}
 use Rattle.codegen.proofs.Frames.{temporaries_fit, frame_fits}
 use Rattle.codegen.proofs.Labels.{leaves}
@@ -114,6 +116,12 @@ module _ (routine : Helper → List ℕ) (core : Core) (ir : Ir) (code : List �
   pub first : (g f : ℕ) → (p.addresses f).function g ≡ step_at p g 0
   first g f = refl
 
+  -- a routine that is used stands where it is called
+  pub helper_stands : (g : ℕ) (which : Helper) → IsAmong which (routines_of ir)
+      → HasRoutine p.code p.low p.high ((p.addresses g).helper which) which
+  helper_stands g which among =
+      routine_stands routine core ir few_functions h.few code m is_assembled which (h.computes which) among
+
   pub step_stands : (g q : ℕ) (s : Step) → slice_get (function_of p g).steps q ≡ Some s → StepStands p g q s
   step_stands g q s k =
       let fn : IrFunction = function_at ir g in
@@ -126,16 +134,12 @@ module _ (routine : Helper → List ℕ) (core : Core) (ir : Ir) (code : List �
         next = λ f. code_before ir items m steps_stand g fn e (inside g fn e) q s k;
         room = omega arith;
         named = named core ir fn as_many_globals s.kind (h.serves.names h.lawful g x.function fn x.is e q s k);
+        helpers = have_routines p g (code_of_step ir fn s.kind)
+            (λ which c. helper_stands g which (placed_for ir g q fn s which e k c));
       }
     where
       as_many_globals : length ir.globals ≡ length core.globals
       as_many_globals = ap length h.serves.globals ∙ as_many_variables core 0 core.globals
-
-  -- a routine that is used stands where it is called
-  pub helper_stands : (g : ℕ) (which : Helper) → IsAmong which (routines_of ir)
-      → HasRoutine p.code p.low p.high ((p.addresses g).helper which) which
-  helper_stands g which among =
-      routine_stands routine core ir few_functions h.few code m is_assembled which (h.computes which) among
 
   pub frames_fit : (g : ℕ) (fn : IrFunction) → slice_get p.ir.functions g ≡ Some fn → FrameFits fn
   frames_fit g fn e =

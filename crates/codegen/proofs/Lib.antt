@@ -12,6 +12,7 @@ pub mod Named
 pub mod Sizes
 pub mod Assembled
 pub mod Locals
+pub mod Called
 pub mod Laid
 pub mod Values
 pub mod First

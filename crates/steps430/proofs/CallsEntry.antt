@@ -157,7 +157,11 @@ module _ (p : Setting) (lay : IsLaid p) (laid : FramesLaid p) (n k f d : ℕ) (a
       let code : Placed p.code p.low p.high (rr 0) (step_code p f (step.Enter n)) =
       subst (λ (a : ℕ). Placed p.code p.low p.high a (step_code p f (step.Enter n))) (sym pc) stands.code in
       let c = from_do p f (rr 0) (Two Mov false src (ToReg 15)) (service 1 ∷ copies p.ir fn 0 (take n fn.locals)) (step_at p f 1)
-      (record { code = code; size = ap (λ (a : ℕ). a + code_bytes (step_code p f (step.Enter n))) pc ∙ sym next_is }) in
+      (record {
+        code = code;
+        size = ap (λ (a : ℕ). a + code_bytes (step_code p f (step.Enter n))) pc ∙ sym next_is;
+        helpers = stands.helpers;
+      }) in
       let z = from_do p f _ (One Call false (Immediate 65282)) (copies p.ir fn 0 (take n fn.locals)) (step_at p f 1) c.1 in
       let is : fn.frame % 65536 % 65536 ≡ fn.frame = omega arith in
       brings_number p Q i r.state r.next (calling args below) all own g (sp + 2) sp ps rr m st x y src 15 (fn.frame % 65536 %

@@ -55,7 +55,7 @@ module _ (p : Setting) (Q : Ideal → Type 0) (n : ℕ) (s : State) (next : ℕ)
       (pos 1) true a facts wide c.1.0 h.stack
       is to (omega arith) (λ st3 y3 facts2 wide2.
       leads_weaker n (suc n) _ Q Q (omega arith) (λ u k. k)
-      (go r2 st3 y3 refl (record { code = c.1.1.1; size = omega arith })
+      (go r2 st3 y3 refl (record { code = c.1.1.1; size = omega arith; helpers = code.helpers.1.1 })
       (with_regs p s next all own segment base sp ps frames r m r2 st st3 h.stack wide2 facts2 h))))
   truth_sets f cond false more end h is code go =
       let c = code.code in
@@ -75,7 +75,7 @@ module _ (p : Setting) (Q : Ideal → Type 0) (n : ℕ) (s : State) (next : ℕ)
       is to (omega arith) (λ st3 y3 facts2 wide2.
       sets p.code p.low p.high segment sp ps h.ground Q n all h.shape r2 m st3 x y3 Mov false (Constant Zero) (ToReg 12)
       (Given 0) (InRegister 12) r3 facts2 wide2 c.1.1.0 generated to_register refl tt tt refl h.stack (λ st4 y4 facts3 wide3.
-      go r3 st4 y4 refl (record { code = c.1.1.1; size = omega arith })
+      go r3 st4 y4 refl (record { code = c.1.1.1; size = omega arith; helpers = code.helpers.1.1 })
       (with_regs p s next all own segment base sp ps frames r m r3 st st4 h.stack wide3 facts3 h))))
 
   -- R12 is compared with R13, or R13 with R12

@@ -32,7 +32,8 @@ use Rattle.select430.specs.Frames.{temporaries_at, temporary_at}
 use Rattle.select430.specs.Parts.{parts_code}
 use Rattle.select430.specs.declared.part.Part.{Part}
 use Rattle.select430.specs.declared.part.Part.TheVariants.{Do}
-use Rattle.steps430.specs.Setting.{Setting, function_of, code_bytes}
+use Rattle.core_tree.specs.LawfulCore.{Every}
+use Rattle.steps430.specs.Setting.{Setting, HasItsRoutine, function_of, code_bytes}
 use Rattle.steps430.specs.Holds.{HasCode, is_defined, temporary_code, CallHolds, Holds}
 use Rattle.steps430.specs.Standing.{ReturnsHere, ReturnsBelow, Stacked, return_to, Stage}
 use Rattle.steps430.proofs.Keeping.{Lower, Higher, here_off, below_off, stack_off, holds_off, call_push, held_set}
@@ -43,11 +44,12 @@ use Rattle.steps430.proofs.Keeping.{Lower, Higher, here_off, below_off, stack_of
 pub record From (p : Setting) (g pc : ℕ) (parts : List Part) (end : ℕ) : Type 0 where
   pub code : Placed p.code p.low p.high pc (parts_code (p.addresses g) parts)
   pub size : pc + code_bytes (parts_code (p.addresses g) parts) ≡ end
+  pub helpers : Every (HasItsRoutine p g) parts
 
 -- the first is an instruction
 pub from_do : (p : Setting) (g pc : ℕ) (i : Instr) (more : List Part) (end : ℕ) → From p g pc (Do i ∷ more) end
     → Here p.code p.low p.high pc i × From p g (pc + size_of i) more end
-from_do p g pc i more end h = let e = h.size in (h.code.0, record { code = h.code.1; size = omega arith })
+from_do p g pc i more end h = let e = h.size in (h.code.0, record { code = h.code.1; size = omega arith; helpers = h.helpers.1 })
 
 -- none are left
 pub from_none : (p : Setting) (g pc end : ℕ) → From p g pc [] end → pc ≡ end

@@ -136,4 +136,4 @@ module _ (p : Setting) (lay : IsLaid p) where
       stands_now p lay 0 f q to first ts ts ls r all own segment sp ps r2 m st2 y2
       (with_regs p r.state r.next all own segment sp sp ps (level f to first ts ∷ ls) rr m r2 st st2 stage.stack wide facts
       (with_level p r.state r.next all own segment sp sp ps f q to first ts ts ls rr m st (λ b k. k) stage))
-      low (record { code = tt; size = (let z : a + 0 ≡ a = omega arith in z) })))
+      low (record { code = tt; size = (let z : a + 0 ≡ a = omega arith in z); helpers = tt })))

@@ -62,6 +62,7 @@ module _ (p : Setting) (lay : IsLaid p) where
           (record {
             code = subst (λ (x : ℕ). Placed p.code p.low p.high x (step_code p b.function k)) (sym pc) stands.code;
             size = ap (λ (x : ℕ). x + code_bytes (step_code p b.function k)) pc;
+            helpers = stands.helpers;
           })
 
   pub result_kept_does : (d : ℕ) → DoesResult p 1 (step.Result d true)

@@ -17,14 +17,24 @@ use Rattle.cells430.proofs.Steady.{calls_routine}
 use Rattle.ir.specs.declared.control.Frame.{Frame}
 use Rattle.select430.specs.declared.part.Part.{Part}
 use Rattle.select430.specs.declared.part.Part.TheVariants.{Helps}
+use Rattle.steps430.specs.Routines.{HasRoutine}
 use Rattle.steps430.specs.Setting.{Setting, IsLaid}
 use Rattle.steps430.specs.Standing.{Stage}
 use Rattle.steps430.proofs.Moves.{From}
 
+-- a routine is called, and stands there
+pub record CallsIt (p : Setting) (g pc : ℕ) (which : Helper) : Type 0 where
+  pub here : Here p.code p.low p.high pc (call ((p.addresses g).helper which))
+  pub routine : HasRoutine p.code p.low p.high ((p.addresses g).helper which) which
+
 -- the first of the parts calls a routine
 pub from_helps : (p : Setting) (g pc : ℕ) (which : Helper) (more : List Part) (end : ℕ) → From p g pc (Helps which ∷ more) end
-    → Here p.code p.low p.high pc (call ((p.addresses g).helper which)) × From p g (pc + 4) more end
-from_helps p g pc which more end h = let e = h.size in (h.code.0, record { code = h.code.1; size = omega arith })
+    → CallsIt p g pc which × From p g (pc + 4) more end
+from_helps p g pc which more end h =
+    let e = h.size in (
+      record { here = h.code.0; routine = h.helpers.0 },
+      record { code = h.code.1; size = omega arith; helpers = h.helpers.1 },
+    )
 
 -- other registers and other memory
 pub with_memory : (p : Setting) (s : State) (next : ℕ) (frames : List Frame) (all own : Cells) (segment base sp : ℕ)
@@ -53,14 +63,14 @@ module _ (p : Setting) (lay : IsLaid p) (Q : Ideal → Type 0) (n : ℕ) (s : St
     (segment base sp : ℕ) (ps r m : ℕ → ℕ) (st : Bytes) (x : Course) (y : Meter) where
   pub helps_with : (which : Helper) (f a b : ℕ) → Stage p s next frames all own segment base sp ps r m st
       → segment_start segment + 4 ≤ sp
-      → Here p.code p.low p.high (r 0) (call ((p.addresses f).helper which)) → r 12 ≡ a → r 13 ≡ b → HasValue which a b
+      → CallsIt p f (r 0) which → r 12 ≡ a → r 13 ≡ b → HasValue which a b
       → ((r2 m2 : ℕ → ℕ) (st2 : Bytes) (y2 : Meter) → r2 0 ≡ r 0 + 4 → r2 12 ≡ value which a b → IsKept (kept_by which) r r2
       → Stage p s next frames all own segment base sp ps r2 m2 st2 → Leads n (at segment ps r2 m2 st2 x y2) Q)
       → Leads (suc (400 + n)) (at segment ps r m st x y) Q
   helps_with which f a b h low here first second has go =
-      let stands = lay.helpers f which in
+      let stands = here.routine in
       calls_routine p.code p.low p.high segment sp ps h.ground low all h.shape which stands.words stands.computes
-      ((p.addresses f).helper which) stands.even stands.from stands.to stands.stands r m st x y a b h.facts h.words here h.stack
+      ((p.addresses f).helper which) stands.even stands.from stands.to stands.stands r m st x y a b h.facts h.words here.here h.stack
       first
       second has n Q
       (λ r2 m2 st2 y2 pc stack answer kept facts wide.

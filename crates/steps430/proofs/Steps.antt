@@ -62,13 +62,14 @@ module _ (p : Setting) (lay : IsLaid p) where
           (record {
             code = subst (λ (x : ℕ). Placed p.code p.low p.high x (step_code p f k)) (sym pc) stands.code;
             size = ap (λ (x : ℕ). x + code_bytes (step_code p f k)) pc;
+            helpers = stands.helpers;
           })
 
   -- and where it falls through, the next one behind it
   pub falls : (k : StepKind) (f q node pc : ℕ) → Falls k → StepStands p f q (record { node = node; kind = k })
       → From p f pc (code_of_step p.ir (function_of p f) k) (step_at p f q + code_bytes (step_code p f k))
       → From p f pc (code_of_step p.ir (function_of p f) k) (step_at p f (q + 1))
-  falls k f q node pc fall stands h = record { code = h.code; size = h.size ∙ sym (stands.next fall) }
+  falls k f q node pc fall stands h = record { code = h.code; size = h.size ∙ sym (stands.next fall); helpers = h.helpers }
 
   -- the run stands at a step of the same call
   pub stands_next : (f q first : ℕ) (ts : List Temporary) (ls : List Frame) (r : Run) (all own : Cells) (segment sp : ℕ)

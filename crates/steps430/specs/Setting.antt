@@ -37,6 +37,8 @@ use Rattle.matching.specs.Matches.{offset_in, placed, address_of}
 use Rattle.select430.specs.Frames.{temporaries_at, address_or, offset_or}
 use Rattle.select430.specs.Parts.{Addresses, parts_code}
 use Rattle.select430.specs.Code.{code_of_step}
+use Rattle.select430.specs.declared.part.Part.{Part}
+use Rattle.select430.specs.declared.part.Part.TheVariants.{Helps}
 use Rattle.steps430.specs.Routines.{HasRoutine}
 
 -- ---- functions
@@ -134,12 +136,18 @@ abbrev pub IsNamed : Core → IrFunction → Base → Type 0
 IsNamed core fn (base.Local n) = n < length fn.locals
 IsNamed core fn (base.Global n) = n < length core.globals
 
+-- the helper routine that a part calls stands where it is called
+abbrev pub HasItsRoutine : Setting → (g : ℕ) → Part → Type 0
+HasItsRoutine p g (Helps which) = HasRoutine p.code p.low p.high ((p.addresses g).helper which) which
+HasItsRoutine p g part = Unit {0}
+
 -- a step stands at its place, and its temporaries are in the frame
 pub record StepStands (p : Setting) (g q : ℕ) (s : Step) : Type 0 where
   pub code : Placed p.code p.low p.high (step_at p g q) (step_code p g s.kind)
   pub next : Falls s.kind → step_at p g (q + 1) ≡ step_at p g q + code_bytes (step_code p g s.kind)
   pub room : temporaries_at (function_of p g) + 2 * reach s.kind ≤ (function_of p g).frame
   pub named : Every (IsNamed p.core (function_of p g)) (bases_of s.kind)
+  pub helpers : Every (HasItsRoutine p g) (code_of_step p.ir (function_of p g) s.kind)
 
 -- ---- objects
 
@@ -164,8 +172,6 @@ pub record IsLaid (p : Setting) : Type 0 where
   pub steps : (g q : ℕ) (s : Step) → slice_get (function_of p g).steps q ≡ Some s → StepStands p g q s
   pub first : (g h : ℕ) → (p.addresses h).function g ≡ step_at p g 0
   pub below : (g q : ℕ) → step_at p g q < 65280
-  -- each helper routine stands where it is called
-  pub helpers : (g : ℕ) (which : Helper) → HasRoutine p.code p.low p.high ((p.addresses g).helper which) which
   pub frames : (g : ℕ) (fn : IrFunction) → slice_get p.ir.functions g ≡ Some fn → FrameFits fn
   -- variables and locals have the addresses that the program gives them
   pub globals : (n : ℕ) → n < length p.core.globals → address_or (slice_get p.ir.globals n) ≡ global_address p.core n
