@@ -1,4 +1,4 @@
--- The setting of a program that is not refused: what it needs to be laid out as the program says, field by field.
+-- The setting of a program that is not refused is laid out as the program says.
 use Rattle.std.proofs.Common.{◌≡◌, ℕ, ◌<◌, ◌≤◌, refl, sym, ap, ◌∙◌, subst, arith, List, length, Option, Some, None}
 use Rattle.std.proofs.lemmas.List.{length-map}
 use Rattle.std.specs.Prelude.{Ok, slice_get}
@@ -42,7 +42,7 @@ use Rattle.select430.proofs.Standing.{stands}
 use Rattle.steps430.specs.Calls.{HaveCells, LocalsLaid, FramesLaid}
 use Rattle.steps430.specs.Outside.{MeetsOutside}
 use Rattle.steps430.specs.Routines.{HasRoutine}
-use Rattle.steps430.specs.Setting.{Setting, function_at, or_none, function_of, step_at, FrameFits, StepStands, StandsAlone, NumberedFrom}
+use Rattle.steps430.specs.Setting.{Setting, function_at, or_none, function_of, step_at, FrameFits, StepStands, StandsAlone, NumberedFrom, IsLaid}
 use Rattle.codegen.specs.Program.{start_items, routines_of, back_items, items_of, labels_end}
 use Rattle.codegen.specs.Words.{global_words}
 use Rattle.codegen.specs.Laid.{setting_of, IsProgram}
@@ -171,6 +171,22 @@ module _ (routine : Helper → List ℕ) (core : Core) (ir : Ir) (code : List �
   pub all_alone : (next : ℕ) (s : State) (n offset : ℕ) (k : Kind) (v : Value) → IsMade p.core next (kept s)
       → accessed s (at n offset) k ≡ Ok v → StandsAlone p.core s n offset k
   all_alone = stands_alone core fit rise apart behind room
+
+  -- all of it: the setting is laid out as the program says
+  pub is_laid : IsLaid p
+  is_laid = record {
+    low = omega arith;
+    high = high;
+    steps = step_stands;
+    first = first;
+    below = below;
+    frames = frames_fit;
+    globals = globals_stand;
+    locals = locals_stand;
+    numbered = all_numbered;
+    found = all_found;
+    alone = all_alone;
+  }
 
   -- ---- frames, and what a program meets outside
 
