@@ -11,7 +11,6 @@ use Rattle.core_tree.specs.LawfulCore.{Every}
 use Rattle.ir.specs.declared.form.Ir.{Ir}
 use Rattle.ir.specs.declared.form.IrFunction.{IrFunction}
 use Rattle.ir.specs.declared.form.Step.{Step}
-use Rattle.ir_gen.specs.Ranges.{JumpsInside}
 use Rattle.placed430.specs.Assembled.{end_of}
 use Rattle.select430.specs.Code.{code_of_step}
 use Rattle.select430.specs.Labels.{function_label}
@@ -19,7 +18,7 @@ use Rattle.select430.specs.Laying.{Stands}
 use Rattle.select430.specs.Parts.{parts_code}
 use Rattle.steps430.specs.Setting.{no_function, or_none, code_bytes}
 use Rattle.codegen.specs.Laid.{bytes_of_first, step_address, addresses_of}
-use Rattle.codegen.proofs.Steps.{parts_long, first_step, past_all, one_function, code_stands}
+use Rattle.codegen.proofs.Steps.{NamesInside, parts_long, first_step, past_all, one_function, code_stands}
 
 -- ---- labels
 
@@ -61,7 +60,7 @@ no_bytes ir (suc q) = refl
 module _ (ir : Ir) (items : List Item) (m : ℕ → ℕ)
     (stands : (g : ℕ) (fn : IrFunction) (q : ℕ) (s : Step) → slice_get ir.functions g ≡ Some fn → slice_get fn.steps q ≡ Some s
     → Stands ir items m g fn q s)
-    (inside : (g : ℕ) (fn : IrFunction) → slice_get ir.functions g ≡ Some fn → JumpsInside fn.steps) where
+    (inside : (g : ℕ) (fn : IrFunction) → slice_get ir.functions g ≡ Some fn → NamesInside ir fn) where
   abbrev by_function : (g : ℕ) → IrFunction → ℕ → ℕ
   by_function g fn q = address (place_of items (function_label g)) + bytes_of_first ir fn q fn.steps
 

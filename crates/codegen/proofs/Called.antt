@@ -1,5 +1,5 @@
 -- The helper routines that the steps of a program call are among those that are placed.
-use Rattle.std.proofs.Common.{◌≡◌, ℕ, zero, suc, Bool, true, false, ◌||◌, List, [], ◌∷◌, Some, None, ap, ◌∙◌, sym, subst, refl, nat_eq, inl, inr, arith}
+use Rattle.std.proofs.Common.{◌≡◌, ℕ, zero, suc, Bool, true, false, ◌||◌, List, [], ◌∷◌, Some, sym, subst, refl, nat_eq, inl, inr, arith}
 use Rattle.std.proofs.lemmas.Bool.Decides.{nat_tests}
 use Rattle.std.specs.Prelude.{slice_get, if◌then◌else◌}
 use Rattle.core_tree.specs.LawfulCore.{Every}
@@ -19,11 +19,11 @@ use Rattle.codegen.proofs.Routines.{IsAmong}
 
 -- ---- over truths
 
-or_first : (a b : Bool) → a ≡ true → a || b ≡ true
+pub or_first : (a b : Bool) → a ≡ true → a || b ≡ true
 or_first true b e = refl
 or_first false b e = cc
 
-or_second : (a b : Bool) → b ≡ true → a || b ≡ true
+pub or_second : (a b : Bool) → b ≡ true → a || b ≡ true
 or_second true b e = refl
 or_second false b e = e
 

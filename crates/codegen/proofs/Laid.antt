@@ -29,7 +29,6 @@ use Rattle.ir.specs.declared.form.Ir.{Ir}
 use Rattle.ir.specs.declared.form.IrFunction.{IrFunction}
 use Rattle.ir.specs.declared.form.Step.{Step}
 use Rattle.ir.specs.declared.form.StepKind.TheVariants as step
-use Rattle.ir_gen.specs.Ranges.{JumpsInside}
 use Rattle.matching.specs.Laid.{IsMade}
 use Rattle.matching.specs.Matches.{placed as alive, offset_in, address_of}
 use Rattle.matching.proofs.Making.{left_made}
@@ -50,6 +49,7 @@ use Rattle.codegen.proofs.Assembled.{assembled, short_code}
 use Rattle.codegen.proofs.Bounds.{step_within}
 use Rattle.codegen.proofs.Called.{placed_for, have_routines}
 use Rattle.codegen.proofs.Calls.{served, at_number, local_stands, calls_in, entered}
+use Rattle.codegen.proofs.Faultless.{few_functions, names_inside, is_faultless}
 use Rattle.codegen.proofs.Frames.{temporaries_fit, frame_fits}
 use Rattle.codegen.proofs.Labels.{leaves}
 use Rattle.codegen.proofs.Lists.{none_some}
@@ -58,7 +58,7 @@ use Rattle.codegen.proofs.Named.{named}
 use Rattle.codegen.proofs.Objects.{numbered, as_many, found, stands_alone, variables_in_data, behind_outputs, stamps_in_data}
 use Rattle.codegen.proofs.Routines.{IsAmong, routine_stands}
 use Rattle.codegen.proofs.Sizes.{AreSmall, all_small, data_ends, variables_stand, as_many_variables}
-use Rattle.codegen.proofs.Steps.{code_stands, code_before}
+use Rattle.codegen.proofs.Steps.{NamesInside, code_stands, code_before}
 
 -- a function that has a step is there
 has_function : (ir : Ir) (g q : ℕ) (s : Step) → slice_get (function_at ir g).steps q ≡ Some s
@@ -84,7 +84,7 @@ module _ (routine : Helper → List ℕ) (core : Core) (ir : Ir) (code : List �
   m = loaded code (global_words core)
 
   is_assembled : IsAssembled items code m
-  is_assembled = assembled routine core ir code (global_words core) h.words h.faultless
+  is_assembled = assembled routine core ir code (global_words core) h.words (is_faultless routine core ir code h)
 
   small : AreSmall core
   small = all_small core h.fine
@@ -92,23 +92,23 @@ module _ (routine : Helper → List ℕ) (core : Core) (ir : Ir) (code : List �
   room : stamps_start core ≤ data_end
   room = let l = data_ends core small.variables in omega arith
 
-  few_functions : length ir.functions ≤ 65536
-  few_functions = let few = h.lawful.few_functions in let many = h.serves.many in omega arith
+  few : length ir.functions ≤ 65536
+  few = few_functions routine core ir code h
 
   steps_stand : (g : ℕ) (fn : IrFunction) (q : ℕ) (s : Step) → slice_get ir.functions g ≡ Some fn → slice_get fn.steps q ≡ Some s
       → Stands ir items m g fn q s
   steps_stand g fn q s e k =
-      stands ir (start_items ir) (back_items routine core ir) (labels_end ir) (leaves routine core ir few_functions h.few)
+      stands ir (start_items ir) (back_items routine core ir) (labels_end ir) (leaves routine core ir few h.few)
       g fn q s
       e k m (placed items code m is_assembled) (part_size items)
 
-  inside : (g : ℕ) (fn : IrFunction) → slice_get ir.functions g ≡ Some fn → JumpsInside fn.steps
-  inside g fn e = (served core ir h.serves g fn e).serves.jumps
+  inside : (g : ℕ) (fn : IrFunction) → slice_get ir.functions g ≡ Some fn → NamesInside ir fn
+  inside = names_inside routine core ir code h
 
   -- ---- code
 
   pub high : p.high ≤ code_end
-  high = let l = short_code items h.faultless in omega arith
+  high = let l = short_code items (is_faultless routine core ir code h) in omega arith
 
   pub below : (g q : ℕ) → step_at p g q < 65280
   below g q = let l = step_within ir items m steps_stand inside g q in let k = high in omega arith
@@ -120,7 +120,7 @@ module _ (routine : Helper → List ℕ) (core : Core) (ir : Ir) (code : List �
   pub helper_stands : (g : ℕ) (which : Helper) → IsAmong which (routines_of ir)
       → HasRoutine p.code p.low p.high ((p.addresses g).helper which) which
   helper_stands g which among =
-      routine_stands routine core ir few_functions h.few code m is_assembled which (h.computes which) among
+      routine_stands routine core ir few h.few code m is_assembled which (h.computes which) among
 
   pub step_stands : (g q : ℕ) (s : Step) → slice_get (function_of p g).steps q ≡ Some s → StepStands p g q s
   step_stands g q s k =
@@ -133,7 +133,7 @@ module _ (routine : Helper → List ℕ) (core : Core) (ir : Ir) (code : List �
         code = code_stands ir items m steps_stand g fn e (inside g fn e) q s k;
         next = λ f. code_before ir items m steps_stand g fn e (inside g fn e) q s k;
         room = omega arith;
-        named = named core ir fn as_many_globals s.kind (h.serves.names h.lawful g x.function fn x.is e q s k);
+        named = named core ir fn as_many_globals s.kind ((inside g fn e).names q s k);
         helpers = have_routines p g (code_of_step ir fn s.kind)
             (λ which c. helper_stands g which (placed_for ir g q fn s which e k c));
       }

@@ -4,6 +4,7 @@ pub mod Steps
 pub mod Bounds
 pub mod Frames
 pub mod Routines
+pub mod Rising
 pub mod Objects
 pub mod Calls
 pub mod Chart
@@ -13,8 +14,11 @@ pub mod Sizes
 pub mod Assembled
 pub mod Locals
 pub mod Called
+pub mod Faultless
 pub mod Laid
 pub mod Values
+pub mod Lawful
 pub mod First
 pub mod Starts
+pub mod Shortly
 pub mod Stops

@@ -24,7 +24,7 @@ use Rattle.codegen.proofs.Labels.{words_labels, number_small, table_labels}
 
 -- ---- their numbers rise
 
-abbrev Rises : ℕ → List Helper → Type 0
+abbrev pub Rises : ℕ → List Helper → Type 0
 Rises n [] = Unit {0}
 Rises n (h ∷ hs) = (n ≤ helper_number h) × Rises (helper_number h + 1) hs
 

@@ -1,6 +1,5 @@
 -- The first instruction calls `main`, and behind that call stands the one that ends a run.
-use Rattle.std.proofs.Common.{◌≡◌, ◌≢◌, ℕ, ◌+◌, ◌-◌, ◌<◌, ◌≤◌, refl, sym, ap, ◌∙◌, subst, arith, false, List, [], ◌∷◌, length, Some, None}
-use Rattle.std.specs.Prelude.{slice_index}
+use Rattle.std.proofs.Common.{◌≡◌, ◌≢◌, ℕ, ◌+◌, ◌-◌, ◌<◌, ◌≤◌, refl, sym, ap, ◌∙◌, subst, arith, List, [], ◌∷◌, length, Some, None}
 use Rattle.base16.specs.Board.{code_start, code_end, outputs_start, outputs_end, first_stack_pointer}
 use Rattle.base16.specs.declared.reading.Reading.{Reading}
 use Rattle.c_meaning.specs.After as meaning
@@ -14,11 +13,9 @@ use Rattle.cells430.proofs.Lift.{here_now}
 use Rattle.cells430.proofs.OutputCells.{inside, outputs_shape}
 use Rattle.cells430.proofs.Start.{start_words, loaded_words, start_facts, start_outputs, loaded_outputs}
 use Rattle.core430.specs.Registers.{set_reg}
-use Rattle.core430.specs.Uses.{AreWords}
 use Rattle.core_layout.specs.Frames.{PlacedFramesLieApart}
 use Rattle.core_layout.specs.Laws.{SlotsFit, SlotsRise, SlotsAligned}
 use Rattle.core_layout.specs.Variables.{StampsLie}
-use Rattle.core_tree.specs.LawfulCore.{Every}
 use Rattle.core_tree.specs.declared.program.Core.{Core}
 use Rattle.core_tree.specs.declared.types.Ty.{Ty}
 use Rattle.isa430.proofs.InMemory.{decodes}
@@ -43,16 +40,18 @@ use Rattle.matching.specs.Simulates.{MachineMatches, last_call}
 use Rattle.matching.proofs.CellsMatch.{matched}
 use Rattle.matching.proofs.Making.{start_made}
 use Rattle.select430.specs.Labels.{function_label}
-use Rattle.steps430.specs.Setting.{Setting, function_at}
+use Rattle.steps430.specs.Setting.{Setting}
 use Rattle.steps430.specs.Standing.{AreWhole, AreFilled, Stage, Entering}
 use Rattle.steps430.specs.Whole.{StartsRight, EndsRight}
 use Rattle.codegen.specs.Program.{start_items, items_of}
-use Rattle.codegen.specs.Words.{global_words, data_of, code_or_zero}
+use Rattle.codegen.specs.Words.{global_words}
 use Rattle.codegen.specs.Laid.{setting_of, IsProgram}
 use Rattle.codegen.proofs.Assembled.{assembled, short_code}
+use Rattle.codegen.proofs.Faultless.{is_faultless}
 use Rattle.codegen.proofs.First.{cells, own, shape, covered, filled, words_small, has_values}
 use Rattle.codegen.proofs.Laid.{below}
 use Rattle.codegen.proofs.Lists.{none_some}
+use Rattle.codegen.proofs.Lawful.{main_alone, starts_narrow}
 use Rattle.codegen.proofs.Sizes.{AreSmall, all_small, as_many_variables}
 use Rattle.codegen.proofs.Values.{whole_start}
 
@@ -65,12 +64,10 @@ unfolding machine.stop_at meaning.stop_at
 same_start core ir h = same_state (machine.start ir) (meaning.start core) (h.same [] 0 tt)
 
 module _ (routine : Helper → List ℕ) (core : Core) (ir : Ir) (code : List ℕ) (readings : List Reading)
-    (h : IsProgram routine core ir code) (wide : AreWords (slice_index code))
+    (h : IsProgram routine core ir code)
     (fit : (t : Ty) → SlotsFit core.structs t) (rise : (t : Ty) → SlotsRise core.structs t)
     (even : (t : Ty) → SlotsAligned core.structs t)
-    (apart : (frames addresses : List ℕ) → PlacedFramesLieApart frames addresses) (behind : StampsLie core)
-    (narrow : Every (λ d. d.wide ≡ false → code_or_zero d.code < 256) (data_of core))
-    (alone : (function_at ir ir.main).params ≡ 0) where
+    (apart : (frames addresses : List ℕ) → PlacedFramesLieApart frames addresses) (behind : StampsLie core) where
   abbrev p : Setting
   p = setting_of routine core ir code readings
 
@@ -87,7 +84,7 @@ module _ (routine : Helper → List ℕ) (core : Core) (ir : Ir) (code : List �
   small = all_small core h.fine
 
   top : hi ≤ code_end
-  top = let l = short_code items h.faultless in omega arith
+  top = let l = short_code items (is_faultless routine core ir code h) in omega arith
 
   -- ---- the first two instructions
 
@@ -96,7 +93,7 @@ module _ (routine : Helper → List ℕ) (core : Core) (ir : Ir) (code : List �
 
   first_two : Placed m 0x8000 hi 0x8000 (call main_at ∷ last_call ∷ [])
   first_two =
-      let a : IsAssembled items code m = assembled routine core ir code (global_words core) h.words h.faultless in
+      let a : IsAssembled items code m = assembled routine core ir code (global_words core) h.words (is_faultless routine core ir code h) in
       placed items code m a [] (start_items ir) _ refl refl
 
   pub ends_right : EndsRight p
@@ -129,8 +126,8 @@ module _ (routine : Helper → List ℕ) (core : Core) (ir : Ir) (code : List �
       let f : Cells = cells core fit rise even apart behind small.variables in
       start_outputs m code_start hi m f (loaded_outputs code (global_words core))
       (start_facts m code_start hi m none f data_shape (record { at = λ a e l k. refl })
-      (loaded_words code (global_words core) wide (words_small core fit rise even apart behind small.variables))
-      (has_values core fit rise even apart behind small.variables code narrow))
+      (loaded_words code (global_words core) h.wide (words_small core fit rise even apart behind small.variables))
+      (has_values core fit rise even apart behind small.variables code (starts_narrow core h.lawful)))
 
   abbrev start : Ideal
   start = start_of m readings
@@ -251,6 +248,6 @@ module _ (routine : Helper → List ℕ) (core : Core) (ir : Ir) (code : List �
       stage = stage;
       point = Entering refl (set_cell-same own_cells (first_stack_pointer - 2) (first_stack_pointer - 2)
           (Word (Some 0x8004)) refl)
-          nothing_below (let z : main_at ≡ main_at + 0 = omega arith in z) tt refl (λ e. refl) (sym alone);
+          nothing_below (let z : main_at ≡ main_at + 0 = omega arith in z) tt refl (λ e. refl) (sym (main_alone core ir h.lawful h.serves));
     };
   }

@@ -16,6 +16,7 @@ use Rattle.ir.specs.declared.form.IrFunction.{IrFunction}
 use Rattle.ir.specs.declared.form.Step.{Step}
 use Rattle.ir.specs.declared.form.StepKind.{StepKind}
 use Rattle.ir.specs.declared.form.StepKind.TheVariants as step
+use Rattle.ir_gen.specs.Names.{HasNames, AllNamed}
 use Rattle.ir_gen.specs.Ranges.{jump_of, JumpsInside}
 use Rattle.select430.specs.declared.part.Part.{Part}
 use Rattle.select430.specs.declared.part.Part.TheVariants.{Do, DoUnless, Go, GoUnless, Enters, Helps, Names}
@@ -80,6 +81,57 @@ past_all ir fn (suc q) [] l = refl
 past_all ir fn (suc q) (x ∷ ss) l =
     let long : length (x ∷ ss) ≡ suc (length ss) = refl in
     ap (λ (n : ℕ). 2 * parts_words (code_of_step ir fn x.kind) + n) (past_all ir fn q ss (omega arith))
+
+-- ---- what steps name
+
+-- the steps of a function name what is there
+pub record NamesInside (ir : Ir) (fn : IrFunction) : Type 0 where
+  pub jumps : JumpsInside fn.steps
+  pub names : AllNamed ir fn
+
+-- what holds of all that is there holds of what a step names
+module _ (P : Name → Type 0) (ir : Ir) (fn : IrFunction) (stays : (to : ℕ) → to < length fn.steps → P (StepAt to))
+    (calls : (f : ℕ) (called : IrFunction) → slice_get ir.functions f ≡ Some called → P (Function f))
+    (reads : (t : ℕ) → t < length ir.tables → P (Table t)) where
+  pub names_hold : (k : StepKind) → jump_of k < length fn.steps → HasNames ir fn k → Every P (names_of k)
+  names_hold (step.Put d x) j h = tt
+  names_hold (step.Nothing d) j h = tt
+  names_hold (step.Drop d) j h = tt
+  names_hold (step.Beside d o) j h = tt
+  names_hold (step.Convert d to x) j h = tt
+  names_hold (step.Unary d o t x) j h = tt
+  names_hold (step.Binary d o left right) j h = tt
+  names_hold (step.Truth d of x) j h = tt
+  names_hold (step.Address d of offset) j h = tt
+  names_hold (step.Follow d x) j h = tt
+  names_hold (step.Member d offset) j h = tt
+  names_hold (step.Element d size own x) j h = tt
+  names_hold (step.Sum d size left_type right_type swapped left right) j h = tt
+  names_hold (step.PointTo d) j h = tt
+  names_hold (step.Load d k) j h = tt
+  names_hold (step.Peek d k) j h = tt
+  names_hold (step.Store d to k x keeps) j h = tt
+  names_hold (step.StoreLocal d n offset k x keeps) j h = tt
+  names_hold (step.Update d to k o x keeps) j h = tt
+  names_hold (step.UpdateLocal d n offset k o x keeps) j h = tt
+  names_hold (step.Undefine n) j h = tt
+  names_hold (step.Jump to) j h = (stays to j, tt)
+  names_hold (step.Branch d t of when to) j h = (stays to j, tt)
+  names_hold (step.Case d of n to) j h = (stays to j, tt)
+  names_hold (step.Call d f n) j h = (calls f h.0 h.1, tt)
+  names_hold (step.Result d keeps) j h = tt
+  names_hold (step.Enter n) j h = tt
+  names_hold (step.Return d x) j h = tt
+  names_hold step.ReturnNothing j h = tt
+  names_hold step.Turn j h = tt
+  names_hold (step.Sense d channel) j h = tt
+  names_hold (step.Emit d x) j h = tt
+  names_hold (step.Checkpoint d) j h = tt
+  names_hold (step.Stamp d n to k x) j h = tt
+  names_hold (step.Timely d n from k limit to) j h = (stays to j, tt)
+  names_hold (step.Open t to) j h = (reads t h, (stays to j, tt))
+  names_hold (step.Check t to) j h = (reads t h, (stays to j, tt))
+  names_hold (step.Close t to) j h = (reads t h, (stays to j, tt))
 
 -- ---- where steps stand
 
@@ -150,54 +202,17 @@ module _ (ir : Ir) (items : List Item) (m : ℕ → ℕ)
   goes g fn e to l = let x = some_at fn.steps to l in at_label g fn to x.0 e x.1
 
   there : (g : ℕ) (fn : IrFunction) → slice_get ir.functions g ≡ Some fn → (k : StepKind) → jump_of k < length fn.steps
-      → Every (IsThere g) (names_of k)
-  there g fn e (step.Put d x) l = tt
-  there g fn e (step.Nothing d) l = tt
-  there g fn e (step.Drop d) l = tt
-  there g fn e (step.Beside d o) l = tt
-  there g fn e (step.Convert d to x) l = tt
-  there g fn e (step.Unary d o t x) l = tt
-  there g fn e (step.Binary d o left right) l = tt
-  there g fn e (step.Truth d of x) l = tt
-  there g fn e (step.Address d of offset) l = tt
-  there g fn e (step.Follow d x) l = tt
-  there g fn e (step.Member d offset) l = tt
-  there g fn e (step.Element d size own x) l = tt
-  there g fn e (step.Sum d size left_type right_type swapped left right) l = tt
-  there g fn e (step.PointTo d) l = tt
-  there g fn e (step.Load d k) l = tt
-  there g fn e (step.Peek d k) l = tt
-  there g fn e (step.Store d to k x keeps) l = tt
-  there g fn e (step.StoreLocal d n offset k x keeps) l = tt
-  there g fn e (step.Update d to k o x keeps) l = tt
-  there g fn e (step.UpdateLocal d n offset k o x keeps) l = tt
-  there g fn e (step.Undefine n) l = tt
-  there g fn e (step.Jump to) l = (goes g fn e to l, tt)
-  there g fn e (step.Branch d t of when to) l = (goes g fn e to l, tt)
-  there g fn e (step.Case d of n to) l = (goes g fn e to l, tt)
-  there g fn e (step.Call d f n) l = (tt, tt)
-  there g fn e (step.Result d keeps) l = tt
-  there g fn e (step.Enter n) l = tt
-  there g fn e (step.Return d x) l = tt
-  there g fn e step.ReturnNothing l = tt
-  there g fn e step.Turn l = tt
-  there g fn e (step.Sense d channel) l = tt
-  there g fn e (step.Emit d x) l = tt
-  there g fn e (step.Checkpoint d) l = tt
-  there g fn e (step.Stamp d n to k x) l = tt
-  there g fn e (step.Timely d n from k limit to) l = (goes g fn e to l, tt)
-  there g fn e (step.Open t to) l = (tt, (goes g fn e to l, tt))
-  there g fn e (step.Check t to) l = (tt, (goes g fn e to l, tt))
-  there g fn e (step.Close t to) l = (tt, (goes g fn e to l, tt))
+      → HasNames ir fn k → Every (IsThere g) (names_of k)
+  there g fn e = names_hold (IsThere g) ir fn (goes g fn e) (λ h f i. tt) (λ t l. tt)
 
   -- ---- the code of a step
 
-  module _ (g : ℕ) (fn : IrFunction) (e : slice_get ir.functions g ≡ Some fn) (inside : JumpsInside fn.steps) where
+  module _ (g : ℕ) (fn : IrFunction) (e : slice_get ir.functions g ≡ Some fn) (inside : NamesInside ir fn) where
     pub same_code : (q : ℕ) (s : Step) → slice_get fn.steps q ≡ Some s
         → parts_code (addresses items g) (code_of_step ir fn s.kind)
         ≡ parts_code (addresses_of items ir g) (code_of_step ir fn s.kind)
     same_code q s k = parts_same g (code_of_step ir fn s.kind)
-        (subst (Every (IsThere g)) (sym (step_names ir fn s.kind)) (there g fn e s.kind (inside q s k)))
+        (subst (Every (IsThere g)) (sym (step_names ir fn s.kind)) (there g fn e s.kind (inside.jumps q s k) (inside.names q s k)))
 
     pub code_stands : (q : ℕ) (s : Step) → slice_get fn.steps q ≡ Some s
         → Placed m 0x8000 (end_of items) (step_address items ir g q)

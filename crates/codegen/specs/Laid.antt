@@ -1,24 +1,27 @@
 -- A program whose image stands in memory, and the setting in which its form's steps are run there.
-use Rattle.std.specs.Prelude.{◌≡◌, ℕ, zero, suc, ◌+◌, ◌*◌, ◌<◌, List, [], ◌∷◌, length, Some, None, slice_get}
+use Rattle.std.specs.Prelude.{◌≡◌, ℕ, zero, suc, ◌+◌, ◌*◌, ◌<◌, List, [], ◌∷◌, ◌≤◌, length, Some, None, slice_get, slice_index}
 use Rattle.base16.specs.Board.{code_start}
 use Rattle.base16.specs.declared.reading.Reading.{Reading}
+use Rattle.core430.specs.Uses.{AreWords}
+use Rattle.core_tree.specs.Costs.{code_cost}
 use Rattle.core_tree.specs.LawfulCore.{LawfulCore}
 use Rattle.core_tree.specs.declared.program.Core.{Core}
 use Rattle.asm430.specs.declared.item.Item.{Item}
-use Rattle.asm430.specs.Assembly.{place_of, address, faults}
+use Rattle.asm430.specs.Assembly.{words_in, place_of, address}
 use Rattle.placed430.specs.Assembled.{end_of}
 use Rattle.rt430.specs.declared.words.Helper.{Helper}
-use Rattle.rt430.specs.Routines.{Computes}
+use Rattle.rt430.specs.Routines.{Computes, size}
 use Rattle.ideal430.specs.Loaded.{loaded}
 use Rattle.ir.specs.declared.form.Ir.{Ir}
 use Rattle.ir.specs.declared.form.IrFunction.{IrFunction}
 use Rattle.ir.specs.declared.form.Step.{Step}
 use Rattle.ir_gen.specs.Serves.{Serves}
 use Rattle.select430.specs.Code.{code_of_step}
+use Rattle.select430.specs.Items.{functions_items}
 use Rattle.select430.specs.Labels.{function_label, helper_label, table_label}
 use Rattle.select430.specs.Parts.{Addresses, parts_words}
 use Rattle.steps430.specs.Setting.{Setting, function_at}
-use Rattle.codegen.specs.Program.{items_of}
+use Rattle.codegen.specs.Program.{table_items, items_of}
 use Rattle.codegen.specs.Words.{global_words}
 use Rattle.codegen.specs.Made.{AreWordsOf, refusal_of}
 
@@ -63,6 +66,9 @@ pub record IsProgram (routine : Helper → List ℕ) (core : Core) (ir : Ir) (co
   pub serves : Serves core ir
   pub few : (g : ℕ) (fn : IrFunction) → slice_get ir.functions g ≡ Some fn → length fn.steps < 4294967296
   pub computes : (which : Helper) → Computes which (routine which)
+  pub sized : (which : Helper) → length (routine which) ≡ size which
   pub fine : refusal_of core ≡ None
+  -- the code of the functions and the check tables are no longer than the rows of the nodes
+  pub room : 2 * words_in (functions_items ir 0 ir.functions) + 2 * words_in (table_items core 0 ir.tables) ≤ code_cost core
   pub words : AreWordsOf (items_of routine core ir) code
-  pub faultless : faults (items_of routine core ir) ≡ []
+  pub wide : AreWords (slice_index code)

@@ -49,7 +49,7 @@ counted_append (x ∷ xs) ys = omega (arith, counted_append xs ys)
 
 -- ---- single steps
 
-operator_short : (o : BinaryOp) → table.operator_bytes o ≤ 8
+pub operator_short : (o : BinaryOp) → table.operator_bytes o ≤ 8
 operator_short o = by_bools (table.is_comparison o) (table.is_helped o)
   where
     by_bools : (a b : Bool) → cond a 8 (cond b 4 2) ≤ 8
@@ -57,7 +57,7 @@ operator_short o = by_bools (table.is_comparison o) (table.is_helped o)
     by_bools false true = omega arith
     by_bools false false = omega arith
 
-operation_short : (o : Operation) → operation_bytes o ≤ 10
+pub operation_short : (o : Operation) → operation_bytes o ≤ 10
 operation_short (operation.Integers o t own) = omega (arith, operator_short o)
 operation_short (operation.PointerPlus minus bytes left right swapped) = omega arith
 operation_short (operation.Difference bytes) = omega arith
@@ -119,7 +119,7 @@ k_choice n m l node t x y z hx hy hz = record {
 
 pub record Cheap (n : ℕ) (code : Code) : Type 0 where
   pub bound : ℕ
-  pub fits : bound + 100 ≤ 848 * n
+  pub fits : bound + 700 ≤ 848 * n
   pub own : Costs bound code
 
 c_leaf : (node : ℕ) (k : ℕ → StepKind) → ((d : ℕ) → counted (k d) ≤ 20) → Cheap 1 (single node k)

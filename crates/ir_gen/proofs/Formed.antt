@@ -273,8 +273,8 @@ form_serves core h =
       names = names_of core;
       globals = refl;
       once = λ rs. steps_once (form_of core) rs form.ordered;
-      short = λ lawful rs c r q made reach.
+      short = λ lawful rs c r q made other reach.
           let apart = steps_once (form_of core) rs form.ordered r c q made reach in
           let near = short (form_of core) rs (Calling (form_of core).main 0 [] []) c r q made reach apart in
-          omega (arith, near, program_cost core lawful);
+          omega (arith, near, program_cost core lawful (form_of core) refl (function_names core lawful) other);
     }

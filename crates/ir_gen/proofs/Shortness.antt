@@ -1,12 +1,19 @@
 -- A run does little between two marks: its steps there are distinct, so they cost no more than all steps do.
 use Rattle.std.proofs.Common.{◌≡◌, ℕ, zero, suc, ◌+◌, ◌*◌, ◌<◌, ◌≤◌, ◌⊎◌, inl, inr, List, [], ◌∷◌, length, map, Option, Some, None, Bool, true, false, ◌&&◌, cond, nat_eq, refl, sym, ap, ap₂, ◌∙◌, subst, arith, eq-or-lt_of_le}
 use Rattle.std.proofs.lemmas.Bool.Decides.{nat_tests}
-use Rattle.std.specs.Prelude.{slice_get}
+use Rattle.std.proofs.lemmas.Option.{slice_get-map}
+use Rattle.std.specs.Prelude.{slice_get, option_map}
+use Rattle.base16.specs.declared.image.Kind.{Kind}
+use Rattle.base16.specs.declared.integer.IntType.{IntType}
+use Rattle.base16.specs.declared.integer.IntType.TheVariants as int
+use Rattle.base16.specs.declared.operator.UnaryOp.{UnaryOp}
+use Rattle.base16.specs.declared.operator.UnaryOp.TheVariants as un
 use Rattle.base16.specs.declared.reading.Reading.{Reading}
 use Rattle.core_tree.specs.Nodes.{total, function_nodes, nodes}
 use Rattle.core_tree.specs.LawfulCore.{Every, IsFunction, LawfulCore, text_of}
 use Rattle.core_tree.specs.declared.program.Core.{Core}
 use Rattle.core_tree.specs.declared.program.Function.{Function}
+use Rattle.core_tree.specs.declared.statements.Stmt.{Stmt}
 use Rattle.c_run.specs.Runs.{Run, Outcome, Went, Stopped, Action}
 use Rattle.c_meaning.specs.After as after
 use Rattle.ir.specs.declared.form.Ir.{Ir}
@@ -14,20 +21,31 @@ use Rattle.ir.specs.declared.form.IrFunction.{IrFunction}
 use Rattle.ir.specs.declared.form.Step.{Step}
 use Rattle.ir.specs.declared.form.StepKind.{StepKind}
 use Rattle.ir.specs.declared.form.StepKind.TheVariants as step
+use Rattle.ir.specs.declared.form.Base.{Base}
 use Rattle.ir.specs.declared.form.Base.TheVariants as base
+use Rattle.ir.specs.declared.form.Operand.{Operand}
+use Rattle.ir.specs.declared.form.Operation.{Operation}
+use Rattle.ir.specs.declared.form.Operation.TheVariants as operation
+use Rattle.ir.specs.declared.form.Target.{Target}
 use Rattle.ir.specs.declared.form.Target.TheVariants as target
+use Rattle.ir.specs.declared.form.Test.{Test}
+use Rattle.ir.specs.declared.form.Test.TheVariants as test
+use Rattle.ir.specs.declared.form.Keep.{Keep}
 use Rattle.ir.specs.declared.form.Keep.TheVariants as keep
 use Rattle.ir.specs.declared.control.Control.{Control}
 use Rattle.ir.specs.declared.control.Control.TheVariants.{At, Calling, Returning}
 use Rattle.ir.specs.Machine as m
+use Rattle.ir.specs.Table.{is_comparison, address_bytes, target_bytes, operator_bytes, operation_helped, convert_bytes, unary_step, keep_bytes, flag_bytes, test_bytes, test_helped, uses_helper}
 use Rattle.ir.specs.Between.{Site, site_of, Reaches, begun, no_mark, a_mark, Absent, Distinct}
 use Rattle.ir.proofs.Advance.{Advance, halted, on, marked, store_only_marks}
 use Rattle.ir.proofs.Leading.{same_number}
+use Rattle.ir_gen.specs.Body.{function_steps}
 use Rattle.ir_gen.specs.Form.{function_of}
-use Rattle.ir_gen.specs.Short.{cost, cost_of, cost_in, costs}
-use Rattle.ir_gen.proofs.Weighing.{bring_short, narrow_short}
-use Rattle.ir_gen.proofs.Costing.{counted, all_counted}
-use Rattle.ir_gen.proofs.StmtCosting.{function_cost}
+use Rattle.ir_gen.specs.Names.{HasNames, AllNamed}
+use Rattle.ir_gen.specs.Short.{cost, cost_of, cost_in, cost_at, costs}
+use Rattle.ir_gen.proofs.Weighing.{bring_short, place_short, narrow_short, once}
+use Rattle.ir_gen.proofs.Costing.{counted, all_counted, operator_short, operation_short}
+use Rattle.ir_gen.proofs.StmtCosting.{spare, function_cost, empty_cost}
 
 -- ---- sums of numbers from 0 on
 
@@ -277,22 +295,200 @@ module _ (ir : Ir) (rs : List Reading) where
         functions_row ir.functions,
       )
 
+-- ---- no step costs much, but the one that enters a function
+
+keep_short : (k : Kind) (keeps : Keep) → keep_bytes k keeps ≤ 8
+keep_short k keep.Nothing = omega arith
+keep_short k keep.Stored = omega (arith, narrow_short k)
+keep_short k keep.Before = omega arith
+
+address_short : (of : Base) → address_bytes of ≤ 6
+address_short (base.Local n) = omega arith
+address_short (base.Global n) = omega arith
+
+target_short : (to : Target) → target_bytes to ≤ 6
+target_short target.Temporary = omega arith
+target_short (target.Known of offset) = address_short of
+
+flag_short : (o : Operation) → flag_bytes o ≤ 12
+flag_short (operation.Integers o t own) = by_bool (is_comparison o)
+  where
+    by_bool : (b : Bool) → cond b 2 (operator_bytes o + 2) ≤ 12
+    by_bool true = omega arith
+    by_bool false = omega (arith, operator_short o)
+flag_short (operation.PointerPlus minus bytes left right swapped) = omega arith
+flag_short (operation.Difference bytes) = omega arith
+flag_short (operation.ComparePointers o) = omega arith
+
+test_short : (t : Test) → test_bytes t ≤ 20
+test_short (test.Value x) = omega (arith, bring_short x)
+test_short (test.Computed o left right) = omega (arith, bring_short left, bring_short right, flag_short o)
+
+unary_few : (o : UnaryOp) (x : Operand) → unary_step o x ≤ 16
+unary_few un.Plus x = omega (arith, place_short x)
+unary_few un.Minus x = omega (arith, bring_short x)
+unary_few un.Complement x = omega (arith, bring_short x)
+unary_few un.Not x = omega (arith, bring_short x)
+
+convert_few : (t : IntType) (x : Operand) → convert_bytes t x ≤ 10
+convert_few int.Char x = omega (arith, bring_short x)
+convert_few int.Int x = omega (arith, place_short x)
+convert_few int.UInt x = omega (arith, place_short x)
+
+result_few : (b : Bool) → cond b 4 0 ≤ 4
+result_few true = omega arith
+result_few false = omega arith
+
+-- entering a function costs by its parameters
+abbrev by_params : StepKind → ℕ
+by_params (step.Enter n) = 6 * n
+by_params k = 0
+
+step_few : (k : StepKind) → cost k ≤ 1000 + by_params k
+step_few (step.Put d x) = omega (arith, place_short x)
+step_few (step.Beside d o) = omega (arith, operation_short o, once (operation_helped o))
+step_few (step.Convert d to x) = omega (arith, convert_few to x)
+step_few (step.Unary d o t x) = omega (arith, unary_few o x)
+step_few (step.Binary d o left right) =
+    omega (arith, bring_short left, bring_short right, operation_short o, once (operation_helped o))
+step_few (step.Truth d of x) = omega (arith, bring_short x)
+step_few (step.Address d of offset) = omega (arith, address_short of)
+step_few (step.Follow d x) = omega (arith, place_short x)
+step_few (step.Element d bytes own x) = omega (arith, bring_short x, once (uses_helper (step.Element d bytes own x)))
+step_few (step.Sum d bytes left_type right_type swapped left right) = omega (
+  arith,
+  bring_short left,
+  bring_short right,
+  once (uses_helper (step.Sum d bytes left_type right_type swapped left right)),
+)
+step_few (step.Store d to k x keeps) = omega (arith, target_short to, bring_short x, keep_short k keeps)
+step_few (step.StoreLocal d n offset k x keeps) = omega (arith, bring_short x, keep_short k keeps)
+step_few (step.Update d to k o x keeps) = omega (
+  arith,
+  target_short to,
+  bring_short x,
+  keep_short k keeps,
+  operation_short o,
+  once (operation_helped o),
+)
+step_few (step.UpdateLocal d n offset k o x keeps) =
+    omega (arith, bring_short x, keep_short k keeps, operation_short o, once (operation_helped o))
+step_few (step.Branch d t of when to) = omega (arith, test_short t, once (test_helped t))
+step_few (step.Result d keeps) = omega (arith, result_few keeps)
+step_few (step.Return d x) = omega (arith, bring_short x)
+step_few (step.Emit d x) = omega (arith, bring_short x)
+step_few (step.Stamp d n to k x) = omega (arith, target_short to, bring_short x)
+step_few (step.Timely d n from k limit to) = omega (arith, target_short from)
+step_few k = omega arith
+
+named_few : (ir : Ir) (fn : IrFunction) (k : StepKind) → HasNames ir fn k → by_params k ≤ 6 * fn.params
+named_few ir fn (step.Enter n) h = omega (arith, h)
+named_few ir fn k h = omega arith
+
+one_counted : (ss : List Step) (p : ℕ) (s : Step) → slice_get ss p ≡ Some s → counted s.kind ≤ all_counted ss
+one_counted [] p s e = absurd (grind (arith, e))
+one_counted (x ∷ ss) zero s e =
+    let same : x ≡ s = ap or_first e in
+    subst (λ (z : Step). counted z.kind ≤ counted x.kind + all_counted ss) same (omega arith)
+  where
+    or_first : Option Step → Step
+    or_first None = x
+    or_first (Some y) = y
+one_counted (x ∷ ss) (suc p) s e = omega (arith, one_counted ss p s e)
+
 -- ---- the whole program
 
-functions_cost : (core : Core) (fs : List Function) → Every (IsFunction core true) fs
-    → all_functions (map (function_of core.structs) fs) + 100 * length fs ≤ 848 * total (map function_nodes fs)
-functions_cost core [] h = omega arith
-functions_cost core (f ∷ fs) h = omega (
-  arith,
-  function_cost core.structs (after.objects_of core.structs f) (after.is_main f) (text_of core true f) f h.0.body,
-  functions_cost core fs h.1,
-)
+module _ (core : Core) where
+  abbrev formed : Function → IrFunction
+  formed f = function_of core.structs f
 
-pub program_cost : (core : Core) → LawfulCore core
-    → all_functions (map (function_of core.structs) core.functions) + 100 ≤ 848 * nodes core
-unfolding nodes
-program_cost core h = omega (
-  arith,
-  functions_cost core core.functions h.functions,
-  within core.functions h.main.0 h.main.1.0 h.main.1.1.0,
-)
+  functions_cost : (fs : List Function) → Every (IsFunction core true) fs
+      → all_functions (map formed fs) + 800 * length fs ≤ 848 * total (map function_nodes fs)
+  functions_cost [] h = omega arith
+  functions_cost (f ∷ fs) h = omega (arith, one_function f h.0, functions_cost fs h.1)
+    where
+      one_function : (f : Function) → IsFunction core true f → all_counted (formed f).steps + 800 ≤ 848 * function_nodes f
+      one_function f h = omega (
+        arith,
+        function_cost core.structs (after.objects_of core.structs f) (after.is_main f) (text_of core true f) f h.body,
+      )
+
+  module _ (ir : Ir) where
+    -- any step of a function besides
+    function_more : (f : Function) → IsFunction core true f → (p : ℕ) (s : Step) → slice_get (formed f).steps p ≡ Some s
+        → HasNames ir (formed f) s.kind → all_counted (formed f).steps + (cost s.kind + 40) ≤ 848 * function_nodes f
+    function_more f h p s e named = by_body f.body refl
+      where
+        fit : all_counted (formed f).steps + (800 + 800 * length f.params + spare f.body) ≤ 848 * function_nodes f
+        fit = function_cost core.structs (after.objects_of core.structs f) (after.is_main f) (text_of core true f) f h.body
+
+        by_body : (ss : List Stmt) → f.body ≡ ss
+            → all_counted (formed f).steps + (cost s.kind + 40) ≤ 848 * function_nodes f
+        by_body [] is =
+            let few : all_counted (formed f).steps ≤ 8 + 6 * length f.params + 10 =
+            subst (λ (ss : List Stmt). all_counted (function_steps core.structs (after.objects_of core.structs f)
+            (after.is_main f) (length f.params) f.node ss) ≤ 8 + 6 * length f.params + 10) (sym is)
+            (empty_cost core.structs (after.objects_of core.structs f) (after.is_main f) (length f.params) f.node) in
+            omega (arith, fit, few, one_counted (formed f).steps p s e, cost_near s.kind)
+        by_body (x ∷ ss) is =
+            let much : spare f.body ≡ 700 = ap spare is in
+            omega (arith, fit, much, step_few s.kind, named_few ir (formed f) s.kind named)
+
+    abbrev AllNames : Function → Type 0
+    AllNames f = AllNamed ir (formed f)
+
+    functions_more : (fs : List Function) → Every (IsFunction core true) fs → (g : ℕ) (f : Function) → slice_get fs g ≡ Some f
+        → AllNames f → (p : ℕ) (s : Step) → slice_get (formed f).steps p ≡ Some s
+        → all_functions (map formed fs) + (cost s.kind + 40) ≤ 848 * total (map function_nodes fs)
+    functions_more [] h g f e names p s k = absurd (grind (arith, e))
+    functions_more (x ∷ fs) h zero f e names p s k =
+        let same : f ≡ x = ap or_first (sym e) in
+        omega (
+          arith,
+          function_more x h.0 p s (subst (λ (y : Function). slice_get (formed y).steps p ≡ Some s) same k)
+              (subst (λ (y : Function). HasNames ir (formed y) s.kind) same (names p s k)),
+          functions_cost fs h.1,
+        )
+      where
+        or_first : Option Function → Function
+        or_first None = x
+        or_first (Some y) = y
+    functions_more (x ∷ fs) h (suc g) f e names p s k = omega (
+      arith,
+      function_cost core.structs (after.objects_of core.structs x) (after.is_main x) (text_of core true x) x h.0.body,
+      functions_more fs h.1 g f e names p s k,
+    )
+
+  -- all that the steps of a program are counted, and any one of them besides
+  pub program_cost : LawfulCore core → (ir : Ir) → ir.functions ≡ map formed core.functions
+      → ((n : ℕ) (f : Function) → slice_get core.functions n ≡ Some f → AllNamed ir (formed f))
+      → (other : Site) → all_functions (map formed core.functions) + (cost_at ir other + 40) ≤ 848 * nodes core
+  unfolding nodes
+  program_cost h ir are names other = by_function (slice_get core.functions other.function) refl
+    where
+      none : all_functions (map formed core.functions) + (0 + 40) ≤ 848 * total (map function_nodes core.functions)
+      none = omega (
+        arith,
+        functions_cost core.functions h.functions,
+        within core.functions h.main.0 h.main.1.0 h.main.1.1.0,
+      )
+
+      here : slice_get ir.functions other.function ≡ option_map formed (slice_get core.functions other.function)
+      here = ap (λ (fs : List IrFunction). slice_get fs other.function) are ∙ slice_get-map formed core.functions other.function
+
+      by_step : (f : Function) → slice_get core.functions other.function ≡ Some f → (o : Option Step)
+          → slice_get (formed f).steps other.position ≡ o
+          → all_functions (map formed core.functions) + (cost_of o + 40) ≤ 848 * total (map function_nodes core.functions)
+      by_step f e None k = none
+      by_step f e (Some s) k =
+          functions_more ir core.functions h.functions other.function f e (names other.function f e) other.position s k
+
+      by_function : (o : Option Function) → slice_get core.functions other.function ≡ o
+          → all_functions (map formed core.functions) + (cost_at ir other + 40) ≤ 848 * total (map function_nodes core.functions)
+      by_function None e =
+          let no : cost_at ir other ≡ 0 = ap (λ (q : Option IrFunction). cost_in q other.position) (here ∙ ap (option_map formed) e) in
+          omega (arith, none, no)
+      by_function (Some f) e =
+          let is : cost_at ir other ≡ cost_of (slice_get (formed f).steps other.position) =
+          ap (λ (q : Option IrFunction). cost_in q other.position) (here ∙ ap (option_map formed) e) in
+          omega (arith, by_step f e (slice_get (formed f).steps other.position) refl, is)

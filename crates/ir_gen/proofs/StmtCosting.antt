@@ -357,8 +357,13 @@ count-Declare n init = search (rules, the_lemmas)
 
 pub record CheapBody (n : ℕ) (code : Body) : Type 0 where
   pub bound : ℕ
-  pub fits : bound + 100 ≤ 848 * n
+  pub fits : bound + 700 ≤ 848 * n
   pub own : CostsBody bound code
+
+-- what statements leave of what their nodes allow
+abbrev pub spare : List Stmt → ℕ
+spare [] = 0
+spare (s ∷ ss) = 700
 
 module _ (S : List Struct) (O : List (List Slot)) where
   cheap_is : {n m : ℕ} {f g : ℕ → Body} → n ≡ m → f ≡ g → ((node : ℕ) → CheapBody m (g node)) → (node : ℕ)
@@ -517,7 +522,7 @@ module _ (S : List Struct) (O : List (List Slot)) where
         })
 
     stmts_cheap : (x : Text) (ss : List Stmt) → AreStmts x ss
-        → (m : ℕ) × (m ≤ 848 * total (map stmt_nodes ss)) × CostsBody m (b.stmts S O ss)
+        → (m : ℕ) × (m + spare ss ≤ 848 * total (map stmt_nodes ss)) × CostsBody m (b.stmts S O ss)
     stmts_cheap _ _ (AreStmts.no_stmts x) = (0, omega arith, kb_none)
     stmts_cheap _ _ (AreStmts.one_more x s more a is) =
         let h = kind_cheap x s.kind a s.node in
@@ -547,9 +552,10 @@ module _ (S : List Struct) (O : List (List Slot)) where
   end_cost true node = omega arith
   end_cost false node = omega arith
 
-  -- the steps of a function
+  -- the steps of a function leave much
   pub function_cost : (main : Bool) (x : Text) (f : Function) → AreStmts x f.body
-      → all_counted (b.function_steps S O main (length f.params) f.node f.body) + 100 ≤ 848 * function_nodes f
+      → all_counted (b.function_steps S O main (length f.params) f.node f.body) + (800 + 800 * length f.params + spare f.body)
+      ≤ 848 * function_nodes f
   function_cost main x f a =
       let size = (b.stmts S O f.body).size in
       let h = stmts_cheap x f.body a in
@@ -560,3 +566,7 @@ module _ (S : List Struct) (O : List (List Slot)) where
         h.2.costs 1 (1 + size) (1 + size),
         end_cost main f.node,
       )
+
+  -- those of a function without statements are few
+  pub empty_cost : (main : Bool) (n node : ℕ) → all_counted (b.function_steps S O main n node []) ≤ 8 + 6 * n + 10
+  empty_cost main n node = omega (arith, end_cost main node)

@@ -35,7 +35,9 @@ abbrev pub costs : Ir → List Site → ℕ
 costs ir [] = 0
 costs ir (site ∷ more) = cost_at ir site + costs ir more
 
--- the steps that a run made since the last mark, with the one that it makes next
+-- the steps that a run made since the last mark, with the one that it makes next, with any other one besides, as that which
+-- made the mark, and with the four bytes that stand before the first
 abbrev pub StaysShort : Core → Ir → List Reading → Type 0
-StaysShort core ir readings = (c : Control) (r q : Run) (made : List Site)
-    → Reaches ir readings (Calling ir.main 0 [] []) r c q made → costs ir (site_of c ∷ made) < 848 * nodes core
+StaysShort core ir readings = (c : Control) (r q : Run) (made : List Site) (other : Site)
+    → Reaches ir readings (Calling ir.main 0 [] []) r c q made
+    → costs ir (site_of c ∷ made) + (cost_at ir other + 4) < 848 * nodes core
