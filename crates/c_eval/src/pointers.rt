@@ -1,6 +1,7 @@
 //! Arithmetic and comparison of pointers in a run (C99 6.5.6, 6.5.8).
 
 ghost use Rattle.std.specs.Prelude.{◌≡◌, false};
+ghost use Rattle.c_meaning.specs.Meaning as spec;
 ghost use Rattle.c_run.specs.Gives.{Gives};
 ghost use Rattle.c_run.specs.Runs as runs;
 ghost use Rattle.c_values.specs.Pointers as pointers;
@@ -12,7 +13,14 @@ use crate::asked::{given, int_value};
 use base16::BinaryOp;
 use c_run::{Halt, Run};
 use c_values::{Location, Value, compared, difference, element, numbered, pointer_sum, sum_of};
-use core_tree::{Struct, Ty, int_type_of, offset_of, size_of, target_of};
+use core_tree::{Struct, Ty, int_type_of, is_pointer, offset_of, size_of, target_of};
+
+/// Whether of a pointer and an integer the integer is the left one, whose type this is.
+fn is_swapped(left: &Ty) -> bool
+    ensures { result ≡ spec.is_swapped left.now }
+{
+    !is_pointer(left)
+}
 
 /// The sum or difference of a pointer and an integer in either order.
 pub fn moved_pointer(
@@ -26,12 +34,16 @@ pub fn moved_pointer(
     right: Value,
 ) -> Result<Value, Halt>
     ensures { Gives (runs.asked node (λ s. pointers.pointer_to
-        (pointers.sum_of s minus size (as_number (int_of own.now) left) (as_number (int_of other.now) right))) run.now)
+        (pointers.sum_of s (spec.is_swapped own.now) minus size (as_number (int_of own.now) left) (as_number (int_of other.now) right))) run.now)
         result run.now }
 {
+    let swapped = is_swapped(own);
     let left = numbered(int_type_of(own), left);
     let right = numbered(int_type_of(other), right);
-    given(node, pointer_sum(run.state(), minus, size, left, right))
+    given(
+        node,
+        pointer_sum(run.state(), swapped, minus, size, left, right),
+    )
 }
 
 /// The place at the sum of a pointer and an integer in either order.
@@ -45,12 +57,13 @@ pub fn place_at(
     right: Value,
 ) -> Result<Location, Halt>
     ensures { Gives (runs.asked node (λ s.
-        pointers.sum_of s false size (as_number (int_of own.now) left) (as_number (int_of other.now) right)) run.now)
+        pointers.sum_of s (spec.is_swapped own.now) false size (as_number (int_of own.now) left) (as_number (int_of other.now) right)) run.now)
         result run.now }
 {
+    let swapped = is_swapped(own);
     let left = numbered(int_type_of(own), left);
     let right = numbered(int_type_of(other), right);
-    given(node, sum_of(run.state(), false, size, left, right))
+    given(node, sum_of(run.state(), swapped, false, size, left, right))
 }
 
 /// An element of the array at a place.

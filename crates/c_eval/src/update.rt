@@ -50,7 +50,7 @@ impl Update {
             Some(at) => given(node, operated(self.op, at, own, before, by)),
             None => {
                 let by = numbered(own, by);
-                let sum = pointer_sum(run.state(), is_sub(self.op), size, before, by);
+                let sum = pointer_sum(run.state(), false, is_sub(self.op), size, before, by);
                 given(node, sum)
             }
         }

@@ -17,7 +17,7 @@ use Rattle.c_values.specs.Pointers.{at, pointed, member_at, element, sum_of, poi
 use Rattle.c_run.specs.Runs.{◌>>=◌, pure, given, asked, mark}
 use Rattle.c_values.specs.Values.{int_value, numbered, operated, operated_one, converted}
 use Rattle.c_run.specs.Actions.{load, store, sense, emit}
-use Rattle.c_meaning.specs.Meaning.{Calls, constant, each, passed, tested, int_of, updated, expr_kind, place_kind, expr, place}
+use Rattle.c_meaning.specs.Meaning.{Calls, constant, each, passed, tested, int_of, is_swapped, updated, expr_kind, place_kind, expr, place}
 
 module _ (S : List Struct) (R : List Reading) (C : Calls) (F : ℕ) where
   pub expr-Constant : (v : ℤ) (ty : Ty) (n : ℕ) → expr_kind S R C F (k.Constant v) ty n ≡ pure (constant (is_pointer ty) v)
@@ -48,7 +48,7 @@ module _ (S : List Struct) (R : List Reading) (C : Calls) (F : ℕ) where
 
   pub expr-PointerPlus : (minus : Bool) (left right : Expr) (ty : Ty) (n : ℕ)
       → expr_kind S R C F (k.PointerPlus minus left right) ty n
-      ≡ expr S R C F left >>= λ a. expr S R C F right >>= λ b. asked n (λ s. pointer_to (sum_of s minus (stride S (target_of ty)) (numbered (int_type_of left.ty) a) (numbered (int_type_of right.ty) b)))
+      ≡ expr S R C F left >>= λ a. expr S R C F right >>= λ b. asked n (λ s. pointer_to (sum_of s (is_swapped left.ty) minus (stride S (target_of ty)) (numbered (int_type_of left.ty) a) (numbered (int_type_of right.ty) b)))
   expr-PointerPlus minus left right ty n = search (rules, the_lemmas)
 
   pub expr-Difference : (left right : Expr) (ty : Ty) (n : ℕ)
@@ -124,5 +124,5 @@ module _ (S : List Struct) (R : List Reading) (C : Calls) (F : ℕ) where
 
   pub place-At : (left right : Expr) (ty : Ty) (n : ℕ)
       → place_kind S R C F (p.At left right) ty n
-      ≡ expr S R C F left >>= λ a. expr S R C F right >>= λ b. asked n (λ s. sum_of s false (stride S ty) (numbered (int_type_of left.ty) a) (numbered (int_type_of right.ty) b))
+      ≡ expr S R C F left >>= λ a. expr S R C F right >>= λ b. asked n (λ s. sum_of s (is_swapped left.ty) false (stride S ty) (numbered (int_type_of left.ty) a) (numbered (int_type_of right.ty) b))
   place-At left right ty n = search (rules, the_lemmas)

@@ -1,6 +1,6 @@
 -- The meaning of C programs (C99 6.5 and 6.8, evaluated from left to right): what an expression, a place and a statement
 -- do to a run.
-use Rattle.std.specs.Prelude.{ℕ, ◌+◌, ℤ, Bool, true, false, if◌then◌else◌, List, [], ◌∷◌, ◌++◌, map, Option, Some, None, Result}
+use Rattle.std.specs.Prelude.{ℕ, ◌+◌, ℤ, Bool, true, false, not, if◌then◌else◌, List, [], ◌∷◌, ◌++◌, map, Option, Some, None, Result}
 use Rattle.base16.specs.declared.integer.IntType.{IntType}
 use Rattle.base16.specs.declared.operator.BinaryOp.{BinaryOp}
 use Rattle.base16.specs.declared.operator.BinaryOp.TheVariants as op
@@ -55,6 +55,10 @@ tested node ty v = asked node (λ s. truth_of s (numbered (int_type_of ty) v))
 abbrev pub int_of : Bool → Value
 int_of b = Int (truth b)
 
+-- of a pointer and an integer the integer is the left one
+abbrev pub is_swapped : Ty → Bool
+is_swapped left = not (is_pointer left)
+
 -- what an operator makes of the old value of a scalar; a pointer is moved by elements of a size
 abbrev pub is_sub : BinaryOp → Bool
 is_sub op.Sub = true
@@ -62,7 +66,7 @@ is_sub _ = false
 
 abbrev pub updated : BinaryOp → Option IntType → IntType → ℕ → State → Value → Value → Result Value ℕ
 updated o (Some t) own size s old v = operated o t own old v
-updated o None own size s old v = pointer_to (sum_of s (is_sub o) size old (numbered own v))
+updated o None own size s old v = pointer_to (sum_of s false (is_sub o) size old (numbered own v))
 
 module _ (structs : List Struct) (readings : List Reading) (call : Calls) (first : ℕ) where
   -- the meaning of one layer of an expression: its own type and node, and its parts
@@ -84,7 +88,7 @@ module _ (structs : List Struct) (readings : List Reading) (call : Calls) (first
   expr_layer (ExprKind-F.PointerPlus minus left right) ty node = do
     a ← left.act
     b ← right.act
-    asked node (λ s. pointer_to (sum_of s minus (stride structs (target_of ty)) (numbered (int_type_of left.ty) a) (numbered (int_type_of right.ty) b)))
+    asked node (λ s. pointer_to (sum_of s (is_swapped left.ty) minus (stride structs (target_of ty)) (numbered (int_type_of left.ty) a) (numbered (int_type_of right.ty) b)))
   expr_layer (ExprKind-F.Difference left right) ty node = do
     a ← left.act
     b ← right.act
@@ -145,7 +149,7 @@ module _ (structs : List Struct) (readings : List Reading) (call : Calls) (first
   place_layer (PlaceKind-F.At left right) ty node = do
     a ← left.act
     b ← right.act
-    asked node (λ s. sum_of s false (stride structs ty) (numbered (int_type_of left.ty) a) (numbered (int_type_of right.ty) b))
+    asked node (λ s. sum_of s (is_swapped left.ty) false (stride structs ty) (numbered (int_type_of left.ty) a) (numbered (int_type_of right.ty) b))
 
   abbrev pub expr_kind : ExprKind → Ty → ℕ → Action Value
   expr_kind = fold-ExprKind (Ty → ℕ → Action Value) (Ty → ℕ → Action Location) (Meant Value) (Meant Location) expr_layer place_layer (λ e. record { ty = e.ty; act = e.kind e.ty e.node }) (λ p. record { ty = p.ty; act = p.kind p.ty p.node })

@@ -19,10 +19,10 @@ use Rattle.core_tree.specs.Heights.{frame_bytes}
 use Rattle.core_tree.specs.Rules.{is_scalar}
 use Rattle.core_tree.specs.LawfulCore.{Every, IsObject, AreStmts, text_of}
 use Rattle.c_values.specs.declared.value.Value.{Value}
-use Rattle.c_values.specs.declared.value.Value.TheVariants.{Int}
+use Rattle.c_values.specs.declared.value.Value.TheVariants.{Int, Undefined}
 use Rattle.c_values.specs.declared.state.State.{State}
 use Rattle.c_values.specs.Objects.{with_scalar}
-use Rattle.c_values.specs.Values.{fitted, fit, fit_or}
+use Rattle.c_values.specs.Values.{fitted, fit, or_missing}
 use Rattle.c_run.specs.Making.{fresh_objects}
 use Rattle.c_run.specs.Runs.{Run, ◌>>=◌, ◌>>◌, pure, changed}
 use Rattle.c_run.specs.Actions.{top_of, with_call, entered, enter, with_params, leave, finish}
@@ -106,12 +106,16 @@ module _ (many : ℕ) (frames : List Frame) (b function : ℕ) (slots : List (Li
 
 -- ---- parameters
 
-fit_by : (P : Value → Type 0) (v : Value) (x : Result Value ℕ) → P v → Granted P x → P (fit_or v x)
-fit_by P v (Ok w) h i = i
-fit_by P v (Err e) h i = h
+fit_by : (P : Value → Type 0) (x : Result Value ℕ) → P Undefined → Granted P x → P (or_missing x)
+fit_by P (Ok w) h i = i
+fit_by P (Err e) h i = h
+
+may_miss : (pointer : Bool) → MayStand pointer Undefined
+may_miss true = tt
+may_miss false = tt
 
 pub fit_stands : (k : Kind) (v : Value) → MayStand (holds_pointer k) v → MayStand (holds_pointer k) (fit k v)
-fit_stands k v h = fit_by (MayStand (holds_pointer k)) v (fitted k v) h (fitted_stands k v h)
+fit_stands k v h = fit_by (MayStand (holds_pointer k)) (fitted k v) (may_miss (holds_pointer k)) (fitted_stands k v h)
 
 module _ (K : Core) (kinds : Kinds) (next : ℕ) where
   abbrev slots_of : Ty → List Slot

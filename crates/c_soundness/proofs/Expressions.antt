@@ -1,5 +1,5 @@
 -- What a lawful expression does from runs that stand: they go on standing, and its value has the shape of its type.
-use Rattle.std.proofs.Common.{append_assoc, append-nil, ◌≡◌, ℕ, ◌+◌, ℤ, pos, Bool, true, false, cond, List, [], ◌∷◌, ◌++◌, ◌<◌, map, slice_get, Option, Some, None, sym, ap, subst, ◌∙◌}
+use Rattle.std.proofs.Common.{append_assoc, append-nil, ◌≡◌, ℕ, ◌+◌, ℤ, pos, Bool, true, false, cond, List, [], ◌∷◌, ◌++◌, ◌<◌, map, slice_get, Option, Some, None, refl, sym, ap, subst, ◌∙◌}
 use Rattle.std.specs.Prelude.{nat_eq}
 use Rattle.base16.specs.declared.integer.IntType.{IntType}
 use Rattle.base16.specs.declared.integer.IntType.TheVariants as int
@@ -34,7 +34,7 @@ use Rattle.c_soundness.specs.Shapes.{IsInteger, IsPointer, Has, HaveAll, IsIn, I
 use Rattle.c_soundness.specs.Standing.{Frame, Stands}
 use Rattle.c_soundness.proofs.Triples.{Any, Triple, Keeps, t_then, t_seq, t_pure, t_value, t_given, t_asked, t_if}
 use Rattle.c_soundness.proofs.Operators.{granted_operated, granted_not, granted_one, granted_truth, granted_int, numbered_integer, granted_all, granted_converted, converted_pointer, granted_pointed, granted_element, granted_sum, granted_sum_other, granted_pointer, granted_address, granted_compared, granted_difference}
-use Rattle.c_soundness.proofs.Types.{pointer_num, pointer_pointer, target_pointer, void_has, num_has, has_num, pointer_has, has_pointer, object_element}
+use Rattle.c_soundness.proofs.Types.{pointer_num, pointer_pointer, pointer_first, integer_first, pointer_word, target_pointer, void_has, num_has, has_num, pointer_has, has_pointer, object_element}
 use Rattle.c_soundness.proofs.Numbers.{kind_numbers, place_kind_numbers}
 use Rattle.c_soundness.proofs.Numbers as nums
 use Rattle.c_soundness.proofs.Actions.{t_any, t_mark, t_load, t_store, t_sense, t_emit}
@@ -166,7 +166,7 @@ module _ (many : ℕ) (K : Core) (whole : Whole K) (R : List Reading) (C : Calls
         let all = own_is many (nums.numbers-Convert e n) mine in
         t_is (expr-Convert S R C F e (ty.Pointer to true) n) (t_then (expr_does e (ty.Pointer to false) i all.1) (λ v h.
         t_value (λ w j. pointer_has K to true w j)
-        (t_given n all.0 _ (converted_pointer (IsObject K to) (int_type_of (ty.Pointer to true)) v
+        (t_given n all.0 _ (converted_pointer (IsObject K to) (int_type_of (ty.Pointer to true)) v (pointer_word to true)
         (has_pointer K to false v h)))))
     kind_does _ _ (HasType.signed o e t other computed i) n mine =
         let all = own_is many (nums.numbers-Unary o e n) mine in
@@ -194,7 +194,8 @@ module _ (many : ℕ) (K : Core) (whole : Whole K) (R : List Reading) (C : Calls
         let parts = own_parts many (expr_numbers x) (expr_numbers y) all.1 in
         t_is (expr-PointerPlus S R C F minus x y (ty.Pointer to r) n) (t_then (expr_does x (ty.Pointer to r) i parts.0) (λ v h.
         t_then (expr_does y (ty.Num by) j parts.1) (λ w g. t_value (λ u l. pointer_has K to r u l)
-        (t_asked n all.0 _ (λ q z. granted_pointer (IsObject K to) _ (granted_sum (IsObject K to) q.state minus _ _ _
+        (t_asked n all.0 _ (λ q z. granted_pointer (IsObject K to) _ (granted_sum (IsObject K to) q.state _ minus _ _ _
+        (pointer_first x.ty to r (own_type s x (ty.Pointer to r) i))
         (numbered_pointer (IsObject K to) (int_type_of x.ty) v (has_pointer K to r v h))
         (numbered_integer (int_type_of y.ty) w (has_num K by w g))))))))
     kind_does _ _ (HasType.plus_pointer x y to r by c i j) n mine =
@@ -202,7 +203,8 @@ module _ (many : ℕ) (K : Core) (whole : Whole K) (R : List Reading) (C : Calls
         let parts = own_parts many (expr_numbers x) (expr_numbers y) all.1 in
         t_is (expr-PointerPlus S R C F false x y (ty.Pointer to r) n) (t_then (expr_does x (ty.Num by) i parts.0) (λ v h.
         t_then (expr_does y (ty.Pointer to r) j parts.1) (λ w g. t_value (λ u l. pointer_has K to r u l)
-        (t_asked n all.0 _ (λ q z. granted_pointer (IsObject K to) _ (granted_sum_other (IsObject K to) q.state false _ _ _
+        (t_asked n all.0 _ (λ q z. granted_pointer (IsObject K to) _ (granted_sum_other (IsObject K to) q.state _ false _ _ _
+        (integer_first x.ty by (own_type s x (ty.Num by) i))
         (numbered_integer (int_type_of x.ty) v (has_num K by v h))
         (numbered_pointer (IsObject K to) (int_type_of y.ty) w (has_pointer K to r w g))))))))
     kind_does _ _ (HasType.difference x y to r q c i j) n mine =
@@ -280,7 +282,7 @@ module _ (many : ℕ) (K : Core) (whole : Whole K) (R : List Reading) (C : Calls
         t_then (t_any (λ kinds. t_load K n all.0 l (ty.Pointer to r) at))
         (λ v h. t_then (expr_does x (ty.Num by) i parts.1) (λ w g.
         t_then (t_value (λ u j. pointer_has K to r u j) (t_asked n all.0 _ (λ q z. granted_pointer (IsObject K to) _
-        (granted_sum (IsObject K to) q.state (is_sub o) _ v _ (has_pointer K to r v h)
+        (granted_sum (IsObject K to) q.state false (is_sub o) _ v _ refl (has_pointer K to r v h)
         (numbered_integer (int_type_of x.ty) w (has_num K by w g)))))) (λ u j.
         t_then (t_any (λ kinds. t_store K n all.0 l (ty.Pointer to r) u marked j))
         (λ z m. t_pure (cond old v z) (either_of (Has K (ty.Pointer to r)) old v z h m)))))))
@@ -336,7 +338,8 @@ module _ (many : ℕ) (K : Core) (whole : Whole K) (R : List Reading) (C : Calls
         let parts = own_parts many (expr_numbers x) (expr_numbers y) all.1 in
         t_is (place-At S R C F x y to n) (t_then (expr_does x (ty.Pointer to r) i parts.0) (λ v h.
         t_then (expr_does y (ty.Num t) j parts.1) (λ w g. t_asked n all.0 _
-        (λ q z. granted_sum (IsObject K to) q.state false (stride S to) _ _
+        (λ q z. granted_sum (IsObject K to) q.state _ false (stride S to) _ _
+        (pointer_first x.ty to r (own_type s x (ty.Pointer to r) i))
         (numbered_pointer (IsObject K to) (int_type_of x.ty) v (has_pointer K to r v h))
         (numbered_integer (int_type_of y.ty) w (has_num K t w g))))))
     place_kind_does _ _ (HasPlaceType.at_pointer x y to r t c i j) n mine =
@@ -344,7 +347,8 @@ module _ (many : ℕ) (K : Core) (whole : Whole K) (R : List Reading) (C : Calls
         let parts = own_parts many (expr_numbers x) (expr_numbers y) all.1 in
         t_is (place-At S R C F x y to n) (t_then (expr_does x (ty.Num t) i parts.0) (λ v h.
         t_then (expr_does y (ty.Pointer to r) j parts.1) (λ w g. t_asked n all.0 _
-        (λ q z. granted_sum_other (IsObject K to) q.state false (stride S to) _ _
+        (λ q z. granted_sum_other (IsObject K to) q.state _ false (stride S to) _ _
+        (integer_first x.ty t (own_type s x (ty.Num t) i))
         (numbered_integer (int_type_of x.ty) v (has_num K t v h))
         (numbered_pointer (IsObject K to) (int_type_of y.ty) w (has_pointer K to r w g))))))
 

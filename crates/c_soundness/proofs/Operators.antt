@@ -1,6 +1,6 @@
 -- What operators, conversions and stores make of values of their shapes has the shape of its type, or one of the rules is
 -- broken.
-use Rattle.std.proofs.Common.{◌≡◌, ℕ, ◌*◌, ◌^◌, ℤ, pos, negsuc, Bool, true, false, cond, List, [], ◌∷◌, Option, Some, None, refl}
+use Rattle.std.proofs.Common.{◌≡◌, ℕ, ◌*◌, ◌^◌, ℤ, pos, negsuc, Bool, true, false, ◌&&◌, cond, List, [], ◌∷◌, Option, Some, None, refl}
 use Rattle.std.specs.Prelude.{Result, Ok, Err, ◌||◌, ◌+ℤ◌, ◌-ℤ◌, int_rem, int_div, nat_eq, nat_le, is_none}
 use Rattle.base16.specs.declared.image.Kind.{Kind}
 use Rattle.base16.specs.declared.image.Kind.TheVariants as kind
@@ -18,7 +18,7 @@ use Rattle.c_values.specs.declared.state.Object.{Object}
 use Rattle.c_values.specs.declared.state.State.{State}
 use Rattle.c_values.specs.Operators.{number, unary, binary, settled, if_settled, shifted_left, shifted_right, count_of, is_zero, is_count, fits_int}
 use Rattle.c_values.specs.Objects.{object_of}
-use Rattle.c_values.specs.Pointers.{at, pointed, within, moved, moved_from, moved_if, gone, gone_at, element, scaled, no_sum, sum_of, pointer_at, pointer_to, pointer_within, address_in, address_from, address, truth_of, compared_offsets, at_end, unordered, apart, compared_alive, compared, divided, difference_alive, difference, end_of}
+use Rattle.c_values.specs.Pointers.{at, pointed, within, moved, moved_from, moved_if, gone, gone_at, element, scaled, further, sum_with, sum_of, pointer_at, pointer_to, pointer_within, address_in, address_from, address, truth_of, compared_offsets, at_end, unordered, apart, compared_alive, compared, divided, difference_alive, difference, end_of}
 use Rattle.c_values.specs.Values.{integer, int_value, numbered, present, fitted, right_type, without_left, without_right, is_negative, operated, negated, operated_alone, operated_one, converted, zero_of, all_present}
 use Rattle.c_soundness.specs.Shapes.{IsInteger, IsPointer, IsIn, MayStand, holds_pointer}
 use Rattle.c_soundness.proofs.Triples.{is_rule, Granted, Any, granted_if}
@@ -218,13 +218,23 @@ zero_stands kind.Pointer = tt
 
 -- ---- pointers, into objects of which something holds
 
+-- a pointer is a word
+abbrev pub holds_word : IntType → Bool
+holds_word int.Char = false
+holds_word int.Int = true
+holds_word int.UInt = true
+
 module _ (Q : Type 0) where
-  pub converted_pointer : (t : IntType) (v : Value) → IsPointer Q v → Granted (IsPointer Q) (converted t v)
+  pub converted_pointer : (t : IntType) (v : Value) → holds_word t ≡ true → IsPointer Q v → Granted (IsPointer Q) (converted t v)
   unfolding converted
-  converted_pointer t (Int z) h = absurd h
-  converted_pointer t (Pointer n x) h = h
-  converted_pointer t Null h = tt
-  converted_pointer t Undefined h = refl
+  converted_pointer t (Int z) w h = absurd h
+  converted_pointer int.Char (Pointer n x) w h = absurd cc
+  converted_pointer int.Int (Pointer n x) w h = h
+  converted_pointer int.UInt (Pointer n x) w h = h
+  converted_pointer int.Char Null w h = absurd cc
+  converted_pointer int.Int Null w h = tt
+  converted_pointer int.UInt Null w h = tt
+  converted_pointer t Undefined w h = refl
 
   pub fitted_pointer : (v : Value) → IsPointer Q v → Granted (IsPointer Q) (fitted kind.Pointer v)
   unfolding fitted
@@ -254,7 +264,7 @@ module _ (Q : Type 0) where
 
   granted_moved : (s : State) (l : Location) (z : ℤ) → At l → Granted At (moved s l z)
   unfolding moved
-  granted_moved s l z h = granted_from s (pos l.offset +ℤ z) l.object h
+  granted_moved s l z h = granted_from s (further l.offset z) l.object h
 
   granted_moved_if : (s : State) (x : Result Location ℕ) (z : ℤ) → Granted At x → Granted At (moved_if s x z)
   granted_moved_if s (Ok l) z h = granted_moved s l z h
@@ -270,42 +280,28 @@ module _ (Q : Type 0) where
   granted_element s size l (Pointer n x) h j = absurd j
   granted_element s size l Null h j = absurd j
 
-  no_sum_rule : (s : State) (a b : Value) → IsRule (no_sum s a b)
-  no_sum_rule s a b = rule_if (gone s a || gone s b) 6 11 refl refl
+  granted_sum_with : (s : State) (minus : Bool) (size : ℕ) (a b : Value) → IsPointer Q a → IsInteger b
+      → Granted At (sum_with s minus size a b)
+  granted_sum_with s minus size a (Int j) h i = granted_moved_if s (pointed a) (scaled minus j size) (granted_pointed a h)
+  granted_sum_with s minus size a Undefined h i = rule_err (gone s a)
+    where
+      rule_err : (b : Bool) → Granted At (cond b (Err 6) (Err 11))
+      rule_err true = refl
+      rule_err false = refl
+  granted_sum_with s minus size a (Pointer m y) h i = absurd i
+  granted_sum_with s minus size a Null h i = absurd i
 
-  pub granted_sum : (s : State) (minus : Bool) (size : ℕ) (a b : Value) → IsPointer Q a → IsInteger b
-      → Granted At (sum_of s minus size a b)
+  pub granted_sum : (s : State) (swapped minus : Bool) (size : ℕ) (a b : Value) → swapped ≡ false → IsPointer Q a
+      → IsInteger b → Granted At (sum_of s swapped minus size a b)
   unfolding sum_of
-  granted_sum s minus size (Int z) b h i = absurd h
-  granted_sum s minus size (Pointer n x) (Int j) h i = granted_moved_if s (pointed (Pointer n x)) (scaled minus j size) h
-  granted_sum s minus size Null (Int j) h i = granted_moved_if s (pointed Null) (scaled minus j size) tt
-  granted_sum s minus size Undefined (Int j) h i = refl
-  granted_sum s minus size (Pointer n x) Undefined h i = no_sum_rule s (Pointer n x) Undefined
-  granted_sum s minus size Null Undefined h i = no_sum_rule s Null Undefined
-  granted_sum s minus size Undefined Undefined h i = no_sum_rule s Undefined Undefined
-  granted_sum s minus size (Pointer n x) (Pointer m y) h i = absurd i
-  granted_sum s minus size (Pointer n x) Null h i = absurd i
-  granted_sum s minus size Null (Pointer m y) h i = absurd i
-  granted_sum s minus size Null Null h i = absurd i
-  granted_sum s minus size Undefined (Pointer m y) h i = absurd i
-  granted_sum s minus size Undefined Null h i = absurd i
+  granted_sum s true minus size a b e h i = absurd cc
+  granted_sum s false minus size a b e h i = granted_sum_with s minus size a b h i
 
-  pub granted_sum_other : (s : State) (minus : Bool) (size : ℕ) (a b : Value) → IsInteger a → IsPointer Q b
-      → Granted At (sum_of s minus size a b)
+  pub granted_sum_other : (s : State) (swapped minus : Bool) (size : ℕ) (a b : Value) → swapped ≡ true → IsInteger a
+      → IsPointer Q b → Granted At (sum_of s swapped minus size a b)
   unfolding sum_of
-  granted_sum_other s minus size a (Int z) h i = absurd i
-  granted_sum_other s minus size (Int j) (Pointer n x) h i = granted_moved_if s (pointed (Pointer n x)) (scaled minus j size) i
-  granted_sum_other s minus size (Int j) Null h i = granted_moved_if s (pointed Null) (scaled minus j size) tt
-  granted_sum_other s minus size (Int j) Undefined h i = refl
-  granted_sum_other s minus size Undefined (Pointer n x) h i = no_sum_rule s Undefined (Pointer n x)
-  granted_sum_other s minus size Undefined Null h i = no_sum_rule s Undefined Null
-  granted_sum_other s minus size Undefined Undefined h i = no_sum_rule s Undefined Undefined
-  granted_sum_other s minus size (Pointer m y) (Pointer n x) h i = absurd h
-  granted_sum_other s minus size (Pointer m y) Null h i = absurd h
-  granted_sum_other s minus size (Pointer m y) Undefined h i = absurd h
-  granted_sum_other s minus size Null (Pointer n x) h i = absurd h
-  granted_sum_other s minus size Null Null h i = absurd h
-  granted_sum_other s minus size Null Undefined h i = absurd h
+  granted_sum_other s true minus size a b e h i = granted_sum_with s minus size b a i h
+  granted_sum_other s false minus size a b e h i = absurd cc
 
   pointer_in : (offset : ℕ) (o : Option ℕ) → IsIn Q o → IsPointer Q (pointer_at offset o)
   pointer_in offset None h = tt
@@ -417,16 +413,16 @@ unfolding compared
 granted_compared Q U s o a b e h i =
     granted_if Any (gone s a || gone s b) (Err 6) (compared_alive s o a b) refl (alive_compared Q U s o a b e h i)
 
-divided_by : (z : ℤ) (size : ℕ) (none : Bool) → none ≡ false
-    → Granted {A = ℤ} Any (cond none (Err 0) (cond (is_zero (int_rem z (pos size))) (Ok (int_div z (pos size))) (Err 9)))
-divided_by z size true e = absurd cc
-divided_by z size false e = granted_if Any (is_zero (int_rem z (pos size))) (Ok (int_div z (pos size))) (Err 9) tt refl
+divided_by : (z : ℤ) (size : ℕ) (none fits : Bool) → none ≡ false
+    → Granted {A = ℤ} Any (cond none (Err 0) (cond fits (Ok (int_div z (pos size))) (Err 9)))
+divided_by z size true fits e = absurd cc
+divided_by z size false fits e = granted_if Any fits (Ok (int_div z (pos size))) (Err 9) tt refl
 
 alive_difference : (Q U : Type 0) (size : ℕ) (a b : Value) → (Q → nat_eq size 0 ≡ false) → IsPointer Q a → IsPointer U b
     → Granted Any (difference_alive size a b)
 alive_difference Q U size (Pointer m x) (Pointer n y) e h i =
     granted_if Any (nat_eq m n) (divided (pos x -ℤ pos y) size) (Err 9)
-    (divided_by (pos x -ℤ pos y) size (nat_eq size 0) (e h)) refl
+    (divided_by (pos x -ℤ pos y) size (nat_eq size 0) (nat_le size 32767 && is_zero (int_rem (pos x -ℤ pos y) (pos size))) (e h)) refl
 alive_difference Q U size Undefined (Pointer n y) e h i = refl
 alive_difference Q U size Undefined Null e h i = refl
 alive_difference Q U size Undefined Undefined e h i = refl

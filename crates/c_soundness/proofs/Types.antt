@@ -1,5 +1,5 @@
 -- What the layers of types say of the shapes of values.
-use Rattle.std.proofs.Common.{◌≡◌, ℕ, Bool, true, false, ◌&&◌, nat_le, length, refl, sym, subst, rules}
+use Rattle.std.proofs.Common.{◌≡◌, ℕ, Bool, true, false, ◌&&◌, not, nat_le, length, refl, sym, ap, subst, ◌∙◌, rules}
 use Rattle.base16.specs.declared.image.Kind.TheVariants as kind
 use Rattle.base16.specs.declared.integer.IntType.{IntType}
 use Rattle.base16.specs.declared.integer.IntType.TheVariants as int
@@ -7,14 +7,15 @@ use Rattle.core_tree.specs.declared.types.Ty.{Ty, out-Ty, the_lemmas}
 use Rattle.core_tree.specs.declared.types.Ty.TheVariants as ty
 use Rattle.core_tree.specs.declared.types.Ty.TheOpen.{Ty-F}
 use Rattle.core_tree.specs.declared.program.Core.{Core}
-use Rattle.core_tree.specs.Layout.{kind_of, kind_of_int, kind_of_layer, is_pointer, target_of}
+use Rattle.core_tree.specs.Layout.{kind_of, kind_of_int, kind_of_layer, int_type_of, is_pointer, target_of}
 use Rattle.core_tree.specs.LawfulCore.{is_object, IsObject}
 use Rattle.c_values.specs.declared.value.Value.{Value}
 use Rattle.c_values.specs.declared.value.Value.TheVariants.{Int, Pointer, Null, Undefined}
 use Rattle.c_values.specs.Values.{fitted}
+use Rattle.c_meaning.specs.Meaning.{is_swapped}
 use Rattle.c_soundness.specs.Shapes.{IsInteger, IsPointer, HasLayer, Has, MayStand, holds_pointer}
 use Rattle.c_soundness.proofs.Triples.{Granted}
-use Rattle.c_soundness.proofs.Operators.{fitted_integer, fitted_pointer}
+use Rattle.c_soundness.proofs.Operators.{holds_word, fitted_integer, fitted_pointer}
 
 pub out-Void : out-Ty ty.Void ≡ Ty-F.Void
 out-Void = search (rules, the_lemmas)
@@ -36,6 +37,17 @@ pointer_pointer to r = search (rules, the_lemmas)
 pub target_pointer : (to : Ty) (r : Bool) → target_of (ty.Pointer to r) ≡ to
 unfolding target_of
 target_pointer to r = search (rules, the_lemmas)
+
+-- of a pointer and an integer, the pointer stands on the left, or the integer
+pub pointer_first : (t to : Ty) (r : Bool) → t ≡ ty.Pointer to r → is_swapped t ≡ false
+pointer_first t to r e = ap is_swapped e ∙ ap not (pointer_pointer to r)
+
+pub integer_first : (t : Ty) (by : IntType) → t ≡ ty.Num by → is_swapped t ≡ true
+integer_first t by e = ap is_swapped e ∙ ap not (pointer_num by)
+
+pub pointer_word : (to : Ty) (r : Bool) → holds_word (int_type_of (ty.Pointer to r)) ≡ true
+unfolding int_type_of
+pointer_word to r = search (rules, the_lemmas)
 
 -- ---- shapes
 

@@ -1,7 +1,7 @@
 -- Arithmetic and comparison of pointers: what they give, or the least rule that is broken (C99 6.5.6, 6.5.8, 6.5.9).
 -- The bounds are those of the whole object: rule 4 outside them, 6 an object that is gone, 9 and 10 two objects, 11 a
 -- value that is missing, 12 the null pointer. An object that is gone has no bounds.
-use Rattle.std.specs.Prelude.{ℕ, ◌+◌, min, ℤ, pos, negsuc, ◌+ℤ◌, ◌-ℤ◌, ◌*ℤ◌, neg_ℤ, int_div, int_rem, nat_eq, nat_le, nat_lt, Bool, true, false, not, ◌||◌, if◌then◌else◌, Option, Some, None, is_none, Result, Ok, Err}
+use Rattle.std.specs.Prelude.{ℕ, ◌+◌, min, ℤ, pos, negsuc, ◌+ℤ◌, ◌-ℤ◌, ◌*ℤ◌, neg_ℤ, int_div, int_rem, nat_eq, nat_le, nat_lt, Bool, true, false, not, ◌&&◌, ◌||◌, if◌then◌else◌, Option, Some, None, is_none, Result, Ok, Err}
 use Rattle.base16.specs.declared.operator.BinaryOp.{BinaryOp}
 use Rattle.base16.specs.declared.operator.BinaryOp.TheVariants as op
 use Rattle.c_values.specs.declared.value.Value.{Value}
@@ -56,9 +56,13 @@ abbrev pub moved_from : State → ℤ → Option ℕ → Result Location ℕ
 moved_from s offset None = Err 12
 moved_from s offset (Some n) = within n offset (object_of s n)
 
+-- the offset so many bytes further; no way leads back from the one that stands for all great ones
+abbrev pub further : ℕ → ℤ → ℤ
+further offset by = if nat_lt offset 65536 then pos offset +ℤ by else pos 65536
+
 -- the place that lies a number of bytes further
 unfoldable pub moved : State → Location → ℤ → Result Location ℕ
-moved s l by = moved_from s (pos l.offset +ℤ by) l.object
+moved s l by = moved_from s (further l.offset by) l.object
 
 abbrev pub moved_if : State → Result Location ℕ → ℤ → Result Location ℕ
 moved_if s (Ok l) by = moved s l by
@@ -77,15 +81,16 @@ element s size l _ = Err unlawful
 abbrev pub scaled : Bool → ℤ → ℕ → ℤ
 scaled minus i size = if minus then neg_ℤ (i *ℤ pos size) else i *ℤ pos size
 
-abbrev pub no_sum : State → Value → Value → ℕ
-no_sum s a b = if gone s a || gone s b then 6 else 11
+-- a pointer moved by an integer, which counts elements of a size
+abbrev pub sum_with : State → (minus : Bool) → ℕ → (pointer integer : Value) → Result Location ℕ
+sum_with s minus size a (Int i) = moved_if s (pointed a) (scaled minus i size)
+sum_with s minus size a Undefined = if gone s a then Err 6 else Err 11
+sum_with s minus size a _ = Err unlawful
 
--- a pointer and an integer in either order
-unfoldable pub sum_of : State → Bool → ℕ → Value → Value → Result Location ℕ
-sum_of s minus size (Int i) (Int j) = Err unlawful
-sum_of s minus size (Int i) b = moved_if s (pointed b) (scaled minus i size)
-sum_of s minus size a (Int i) = moved_if s (pointed a) (scaled minus i size)
-sum_of s minus size a b = Err (no_sum s a b)
+-- a pointer and an integer, which is the left one where they are swapped
+unfoldable pub sum_of : State → (swapped minus : Bool) → ℕ → Value → Value → Result Location ℕ
+sum_of s true minus size a b = sum_with s minus size b a
+sum_of s false minus size a b = sum_with s minus size a b
 
 abbrev pub pointer_at : ℕ → Option ℕ → Value
 pointer_at offset None = Null
@@ -156,9 +161,11 @@ compared_alive s o _ _ = Err unlawful
 unfoldable pub compared : State → BinaryOp → Value → Value → Result ℤ ℕ
 compared s o a b = if gone s a || gone s b then Err 6 else compared_alive s o a b
 
+-- so many elements of a size as are so many bytes; elements of more than 32,767 bytes have no difference
 abbrev pub divided : ℤ → ℕ → Result ℤ ℕ
 divided z size =
-    if nat_eq size 0 then Err unlawful else (if is_zero (int_rem z (pos size)) then Ok (int_div z (pos size)) else Err 9)
+    if nat_eq size 0 then Err unlawful else (
+    if nat_le size 32767 && is_zero (int_rem z (pos size)) then Ok (int_div z (pos size)) else Err 9)
 
 abbrev pub difference_alive : ℕ → Value → Value → Result ℤ ℕ
 difference_alive size (Pointer m a) (Pointer n b) = if nat_eq m n then divided (pos a -ℤ pos b) size else Err 9

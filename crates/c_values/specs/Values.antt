@@ -89,10 +89,11 @@ unfoldable pub operated_one : State → UnaryOp → IntType → Value → Result
 operated_one s un.Not t v = negated (truth_of s (numbered t v))
 operated_one s o t v = operated_alone o t v
 
--- a value converted to a type: an integer to the equal one, a pointer as it is
+-- a value converted to a type: an integer to the equal one, a pointer, which is a word, as it is
 unfoldable pub converted : IntType → Value → Result Value ℕ
 converted t (Int z) = Ok (Int (as_type t z))
 converted t Undefined = Err 11
+converted int.Char v = Err unlawful
 converted t v = Ok v
 
 abbrev pub defined : Result Value ℕ → Result Value ℕ
@@ -108,13 +109,13 @@ abbrev pub zero_of : Kind → Value
 zero_of kind.Pointer = Null
 zero_of _ = Int (pos 0)
 
--- a value as a scalar of a kind has it
-abbrev pub fit_or : Value → Result Value ℕ → Value
-fit_or v (Ok w) = w
-fit_or v (Err _) = v
+abbrev pub or_missing : Result Value ℕ → Value
+or_missing (Ok w) = w
+or_missing (Err _) = Undefined
 
+-- what a scalar of a kind gets of a value: what fits it, or nothing
 abbrev pub fit : Kind → Value → Value
-fit k v = fit_or v (fitted k v)
+fit k v = or_missing (fitted k v)
 
 -- all values are there
 abbrev pub all_present : List Value → Result (Unit {0}) ℕ

@@ -109,8 +109,9 @@ fn divided(bytes: i64, size: u32) -> Result<i64, u8>
     if size == 0 {
         return Err(0);
     }
+    let wide = size > 32767;
     let size = i64::from(size);
-    if bytes % size == 0 {
+    if !wide && bytes % size == 0 {
         Ok(bytes / size)
     } else {
         Err(9)

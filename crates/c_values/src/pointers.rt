@@ -60,7 +60,11 @@ pub fn moved(state: &State, place: Location, by: i128) -> Result<Location, u8>
     ensures value { result ≡ spec.moved state.now place by }
     ensures high { IfOk result (λ found. found.offset < 65536) }
 {
-    let offset = i128::from(place.offset) + by;
+    let offset = if place.offset < 65536 {
+        i128::from(place.offset) + by
+    } else {
+        65536
+    };
     let Some(number) = place.object else {
         return Err(12);
     };
@@ -120,16 +124,6 @@ fn scaled(minus: bool, number: i64, size: u32) -> i128
     if minus { -bytes } else { bytes }
 }
 
-fn no_sum(state: &State, left: Value, right: Value) -> u8
-    ensures { result ≡ spec.no_sum state.now left right }
-{
-    if gone(state, left) || gone(state, right) {
-        6
-    } else {
-        11
-    }
-}
-
 fn moved_by(
     state: &State,
     minus: bool,
@@ -146,23 +140,41 @@ fn moved_by(
     }
 }
 
-/// A pointer and an integer in either order, the integer counting elements of a size in bytes.
+/// A pointer moved by an integer, which counts elements of a size in bytes.
+fn sum_with(
+    state: &State,
+    minus: bool,
+    size: u32,
+    pointer: Value,
+    integer: Value,
+) -> Result<Location, u8>
+    ensures value { result ≡ spec.sum_with state.now minus size pointer integer }
+    ensures high { IfOk result (λ place. place.offset < 65536) }
+{
+    match integer {
+        Value::Int(number) => moved_by(state, minus, size, pointer, number),
+        Value::Undefined => Err(if gone(state, pointer) { 6 } else { 11 }),
+        Value::Pointer { .. } | Value::Null => Err(0),
+    }
+}
+
+/// A pointer and an integer, which counts elements of a size in bytes; `swapped` where the integer is the left one.
 #[tactic(auto, unfolding(crate::specs::Pointers::sum_of))]
 pub fn sum_of(
     state: &State,
+    swapped: bool,
     minus: bool,
     size: u32,
     left: Value,
     right: Value,
 ) -> Result<Location, u8>
-    ensures value { result ≡ spec.sum_of state.now minus size left right }
+    ensures value { result ≡ spec.sum_of state.now swapped minus size left right }
     ensures high { IfOk result (λ place. place.offset < 65536) }
 {
-    match (left, right) {
-        (Value::Int(_), Value::Int(_)) => Err(0),
-        (Value::Int(number), _) => moved_by(state, minus, size, right, number),
-        (_, Value::Int(number)) => moved_by(state, minus, size, left, number),
-        _ => Err(no_sum(state, left, right)),
+    if swapped {
+        sum_with(state, minus, size, right, left)
+    } else {
+        sum_with(state, minus, size, left, right)
     }
 }
 
@@ -203,14 +215,15 @@ fn pointer_within(object: u64, offset: u32, end: u32) -> Result<Value, u8>
 /// What stands where two pointers are moved by a sum: the pointer to that place.
 pub fn pointer_sum(
     state: &State,
+    swapped: bool,
     minus: bool,
     size: u32,
     left: Value,
     right: Value,
 ) -> Result<Value, u8>
-    ensures { result ≡ spec.pointer_to (spec.sum_of state.now minus size left right) }
+    ensures { result ≡ spec.pointer_to (spec.sum_of state.now swapped minus size left right) }
 {
-    match sum_of(state, minus, size, left, right) {
+    match sum_of(state, swapped, minus, size, left, right) {
         Ok(
             Location {
                 object: Some(object),

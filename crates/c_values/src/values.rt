@@ -50,7 +50,10 @@ pub fn converted(to: IntType, value: Value) -> Result<Value, u8>
     match value {
         Value::Int(z) => Ok(Value::Int(as_type(to, z))),
         Value::Undefined => Err(11),
-        Value::Pointer { .. } | Value::Null => Ok(value),
+        Value::Pointer { .. } | Value::Null => match to {
+            IntType::Char => Err(0),
+            IntType::Int | IntType::UInt => Ok(value),
+        },
     }
 }
 
@@ -69,13 +72,13 @@ pub fn fitted(kind: Kind, value: Value) -> Result<Value, u8>
     }
 }
 
-/// A value as a scalar of a kind has it, where that is lawful.
+/// What a scalar of a kind gets of a value: what fits it, or nothing.
 pub fn fit(kind: Kind, value: Value) -> Value
     ensures { result ≡ spec.fit kind value }
 {
     match fitted(kind, value) {
         Ok(fitting) => fitting,
-        Err(_rule) => value,
+        Err(_rule) => Value::Undefined,
     }
 }
 

@@ -140,12 +140,16 @@ module _ {Q M : Control → Type 0} {left : ℕ} where
   adv_target first target.Temporary ts q go h = adv_place ts q go h
   adv_target first (target.Known of offset) ts q go h = h (m.known first of offset) ts
 
-  adv_before : (k : Keep) (ts : List Temporary) (q : Run) (go : Value → List Temporary → Action Control)
-      → ((v : Value) (us : List Temporary) → Advance Q M left (go v us q)) → Advance Q M left (m.on_before k ts go q)
+  adv_before : (node : ℕ) (k : Keep) (ts : List Temporary) (q : Run) → q.left ≡ left
+      → (go : Value → List Temporary → Action Control)
+      → ((v : Value) (us : List Temporary) (q2 : Run) → q2.left ≡ left → Advance Q M left (go v us q2))
+      → Advance Q M left (m.on_before node k ts go q)
   unfolding m.on_before
-  adv_before keep.Before ts q go h = adv_value ts q go h
-  adv_before keep.Nothing ts q go h = h Undefined ts
-  adv_before keep.Stored ts q go h = h Undefined ts
+  adv_before node keep.Before ts q same go h =
+      adv_value ts q (λ v us. λ r. and_then (given node (present v) r) (λ w. go w us))
+      (λ v us. adv_kept q same (given node (present v) q) (λ w. go w us) (given_keeps node _ q) (λ w q2 e. h w us q2 e))
+  adv_before node keep.Nothing ts q same go h = h Undefined ts q same
+  adv_before node keep.Stored ts q same go h = h Undefined ts q same
 
   adv_test : (node first : ℕ) (t : Test) (ts : List Temporary) (q : Run) → q.left ≡ left → (go : Value → List Temporary
       → Action Control)
@@ -251,12 +255,12 @@ module _ (ir : Ir) (rs : List Reading) where
   adv_act h node (step.Peek d k) first ts r j = adv_place ts r _ (λ l us. adv_depth d us _ r (adv_kept r refl _ _
       (load_keeps node l k r) (λ w q2 e2. on e2 (next h first _))))
   adv_act h node (step.Store d to k x keeps) first ts r j =
-      adv_operand node first x ts r refl _ (λ v us q e. adv_before keeps us q _ (λ b ws. adv_target first to ws q _
-      (λ l xs. adv_depth d xs _ q (adv_marked q e _ _ (store_marks node l k v q) (λ w q2 e2. marked e2
+      adv_operand node first x ts r refl _ (λ v us q e. adv_before node keeps us q e _ (λ b ws q1 e1. adv_target first to ws q1 _
+      (λ l xs. adv_depth d xs _ q1 (adv_marked q1 e1 _ _ (store_marks node l k v q1) (λ w q2 e2. marked e2
       (renewed h first _))))))
   adv_act h node (step.StoreLocal d n offset k x keeps) first ts r j =
-      adv_operand node first x ts r refl _ (λ v us q e. adv_before keeps us q _ (λ b ws. adv_depth d ws _ q
-      (adv_kept q e _ _ (store_keeps node (location (first + n) offset) k v q) (λ w q2 e2. on e2 (next h first _)))))
+      adv_operand node first x ts r refl _ (λ v us q e. adv_before node keeps us q e _ (λ b ws q1 e1. adv_depth d ws _ q1
+      (adv_kept q1 e1 _ _ (store_keeps node (location (first + n) offset) k v q1) (λ w q2 e2. on e2 (next h first _)))))
   adv_act h node (step.Update d to k op x keeps) first ts r j =
       adv_operand node first x ts r refl _ (λ v us q e. adv_target first to us q _ (λ l ws. adv_depth d ws _ q
       (adv_marked q e _ _ (updated_marks node l k op v q) (λ w q2 e2. marked e2 (renewed h first _)))))
@@ -306,8 +310,8 @@ module _ (ir : Ir) (rs : List Reading) where
       (ts : List Temporary) (below : List Frame) (r : Run)
       → Advance (λ c. ⊥) (λ c. Unit {0}) r.left (m.act ir rs node (step.Store d to k x keeps) f p first ts below r)
   store_only_marks node d to k x keeps f p first ts below r =
-      adv_operand node first x ts r refl _ (λ v us q e. adv_before keeps us q _ (λ b ws. adv_target first to ws q _
-      (λ l xs. adv_depth d xs _ q (adv_marked q e _ _ (store_marks node l k v q) (λ w q2 e2. marked e2 tt)))))
+      adv_operand node first x ts r refl _ (λ v us q e. adv_before node keeps us q e _ (λ b ws q1 e1. adv_target first to ws q1 _
+      (λ l xs. adv_depth d xs _ q1 (adv_marked q1 e1 _ _ (store_marks node l k v q1) (λ w q2 e2. marked e2 tt)))))
 
   -- a turn makes a mark, wherever it stands
   pub adv_turn : {Q M : Control → Type 0} (f p : ℕ) (below : List Frame) (fn : IrFunction)

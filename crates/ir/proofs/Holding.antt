@@ -118,12 +118,12 @@ module _ {born : List (List Slot)} {P : Control → Type 0} where
   safe_target first target.Temporary ts h = safe_place ts h
   safe_target first (target.Known of offset) ts h = h (m.known first of offset) ts
 
-  safe_before : (k : Keep) (ts : List Temporary) {go : Value → List Temporary → Action Control}
-      → ((v : Value) (us : List Temporary) → Safe born P (go v us)) → Safe born P (m.on_before k ts go)
+  safe_before : (node : ℕ) (k : Keep) (ts : List Temporary) {go : Value → List Temporary → Action Control}
+      → ((v : Value) (us : List Temporary) → Safe born P (go v us)) → Safe born P (m.on_before node k ts go)
   unfolding m.on_before
-  safe_before keep.Before ts h = safe_value ts h
-  safe_before keep.Nothing ts h = h Undefined ts
-  safe_before keep.Stored ts h = h Undefined ts
+  safe_before node keep.Before ts h = safe_value ts (λ v us. safe_then (safe_given node (present v)) (λ w e. h w us))
+  safe_before node keep.Nothing ts h = h Undefined ts
+  safe_before node keep.Stored ts h = h Undefined ts
 
   safe_test : (node first : ℕ) (t : Test) (ts : List Temporary) {go : Value → List Temporary → Action Control}
       → ((v : Value) (us : List Temporary) → Safe born P (go v us)) → Safe born P (m.on_test node first t ts go)
@@ -199,10 +199,10 @@ module _ (ir : Ir) (rs : List Reading) {born : List (List Slot)} where
         (safe_then (safe_load node l k) (λ w e. on (p + 1) _)))
     safe_act node (step.Peek d k) p ts = safe_place ts (λ l us. safe_depth d us
         (safe_then (safe_load node l k) (λ w e. on (p + 1) _)))
-    safe_act node (step.Store d to k x keeps) p ts = safe_operand node first x ts (λ v us. safe_before keeps us (λ b ws.
+    safe_act node (step.Store d to k x keeps) p ts = safe_operand node first x ts (λ v us. safe_before node keeps us (λ b ws.
         safe_target first to ws (λ l xs. safe_depth d xs (safe_then (safe_store node l k v true) (λ w e. on (p + 1) _)))))
     safe_act node (step.StoreLocal d n offset k x keeps) p ts = safe_operand node first x ts (λ v us.
-        safe_before keeps us (λ b ws. safe_depth d ws (safe_then (safe_store node _ k v false) (λ w e. on (p + 1) _))))
+        safe_before node keeps us (λ b ws. safe_depth d ws (safe_then (safe_store node _ k v false) (λ w e. on (p + 1) _))))
     safe_act node (step.Update d to k op x keeps) p ts = safe_operand node first x ts (λ v us. safe_target first to us
         (λ l ws. safe_depth d ws (safe_then (safe_update node l k op v true) (λ w e. on (p + 1) _))))
     safe_act node (step.UpdateLocal d n offset k op x keeps) p ts = safe_operand node first x ts (λ v us. safe_depth d us

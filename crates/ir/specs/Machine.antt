@@ -113,7 +113,7 @@ numbered_as (Some t) v = numbered t v
 abbrev pub computed : State → Operation → Value → Value → Result Value ℕ
 computed s (operation.Integers o t own) x y = operated o t own x y
 computed s (operation.PointerPlus minus size left right swapped) x y =
-    pointer_to (sum_of s minus size (numbered_as left x) (numbered_as right y))
+    pointer_to (sum_of s swapped minus size (numbered_as left x) (numbered_as right y))
 computed s (operation.Difference size) x y = int_value (difference s size x y)
 computed s (operation.ComparePointers o) x y = int_value (compared s o x y)
 
@@ -135,9 +135,9 @@ branch _ _ to next = next
 -- ---- stores
 
 -- the value from before that is kept below the value of a store, and none where none is kept
-unfoldable pub on_before : Keep → List Temporary → (Value → List Temporary → Action Control) → Action Control
-on_before keep.Before ts go = on_value ts go
-on_before _ ts go = go Undefined ts
+unfoldable pub on_before : ℕ → Keep → List Temporary → (Value → List Temporary → Action Control) → Action Control
+on_before node keep.Before ts go = on_value ts (λ b us. given node (present b) >>= λ w. go w us)
+on_before node _ ts go = go Undefined ts
 
 -- the temporaries with what a store leaves
 abbrev pub kept : Keep → (stored before : Value) → List Temporary → List Temporary
@@ -254,17 +254,17 @@ module _ (ir : Ir) (rs : List Reading) where
       asked node (λ s. element s size l (numbered own i)) >>= placed f p first below ws)))
   act node (step.Sum d size left_type right_type swapped left right) f p first ts below =
       on_operands node first left right ts (λ x y us. at_depth d us (
-      asked node (λ s. sum_of s false size (numbered left_type x) (numbered right_type y)) >>= placed f p first below us))
+      asked node (λ s. sum_of s swapped false size (numbered left_type x) (numbered right_type y)) >>= placed f p first below us))
   act node (step.PointTo d) f p first ts below =
       on_place ts (λ l us. at_depth d us (asked node (λ s. address s l) >>= gave f p first below us))
   act node (step.Load d k) f p first ts below = on_place ts (λ l us. at_depth d us (load node l k >>= gave f p first below us))
   act node (step.Peek d k) f p first ts below =
       on_place ts (λ l us. at_depth d us (load node l k >>= gave f p first below (temporary.Place l ∷ us)))
   act node (step.Store d to k x keeps) f p first ts below =
-      on_operand node first x ts (λ v us. on_before keeps us (λ b ws. on_target first to ws (λ l xs. at_depth d xs (
+      on_operand node first x ts (λ v us. on_before node keeps us (λ b ws. on_target first to ws (λ l xs. at_depth d xs (
       store node l k v true >>= λ w. next f p first below (kept keeps w b xs)))))
   act node (step.StoreLocal d n offset k x keeps) f p first ts below =
-      on_operand node first x ts (λ v us. on_before keeps us (λ b ws. at_depth d ws (
+      on_operand node first x ts (λ v us. on_before node keeps us (λ b ws. at_depth d ws (
       store node (at (first + n) offset) k v false >>= λ w. next f p first below (kept keeps w b ws))))
   act node (step.Update d to k op x keeps) f p first ts below =
       on_operand node first x ts (λ v us. on_target first to us (λ l ws. at_depth d ws (

@@ -1,11 +1,15 @@
 -- Codes that do what an action does: one step, and one code after the other.
-use Rattle.std.proofs.Common.{◌≡◌, ℕ, ◌+◌, List, [], ◌∷◌, ◌++◌, length, Some, refl, ap, ◌∙◌, subst, arith, length-append}
+use Rattle.std.proofs.Common.{◌≡◌, ℕ, ◌+◌, List, [], ◌∷◌, ◌++◌, length, Some, Result, Ok, Err, refl, ap, ◌∙◌, subst, arith, length-append}
 use Rattle.std.specs.Prelude.{slice_get}
+use Rattle.base16.specs.declared.image.Kind.{Kind}
 use Rattle.base16.specs.declared.reading.Reading.{Reading}
 use Rattle.c_values.specs.declared.value.Value.{Value}
-use Rattle.c_values.specs.declared.value.Value.TheVariants.{Undefined}
+use Rattle.c_values.specs.declared.value.Value.TheVariants.{Int, Pointer, Null, Undefined}
 use Rattle.c_values.specs.declared.value.Location.{Location}
-use Rattle.c_run.specs.Runs.{Run, Outcome, Went, Action, and_then, pure, ◌>>=◌, ◌>>◌}
+use Rattle.c_values.specs.Objects.{accessed}
+use Rattle.c_values.specs.Values.{present, defined}
+use Rattle.c_run.specs.Runs.{Run, Outcome, Went, Action, and_then, pure, ◌>>=◌, ◌>>◌, given}
+use Rattle.c_run.specs.Actions.{load}
 use Rattle.ir.specs.declared.form.Ir.{Ir}
 use Rattle.ir.specs.declared.form.IrFunction.{IrFunction}
 use Rattle.ir.specs.declared.form.Operand.TheVariants as operand
@@ -19,8 +23,24 @@ use Rattle.ir.specs.declared.control.Frame.{Frame}
 use Rattle.ir.specs.declared.control.Temporary.{Temporary}
 use Rattle.ir.specs.declared.control.Temporary.TheVariants as temporary
 use Rattle.ir.specs.Machine as m
-use Rattle.ir.proofs.Leading.{Stands, stands_front, stands_back, Leads, leads_by, leads_same, chain, made, at_depth_is}
+use Rattle.ir.proofs.Leading.{Stands, stands_front, stands_back, Leads, Gives, gave, stopped, leads_by, leads_same, chain, chain_given, made, at_depth_is}
 use Rattle.ir_gen.specs.Code.{Code, at_node, single, then_code, above}
+
+-- ---- what is loaded is there
+
+abbrev pub IsPresent : Value → Type 0
+IsPresent v = present v ≡ Ok v
+
+pub loaded_present : (node : ℕ) (l : Location) (k : Kind) (r : Run) → Gives IsPresent (load node l k r)
+unfolding load
+loaded_present node l k r = by_access (accessed r.state l k)
+  where
+    by_access : (o : Result Value ℕ) → Gives IsPresent (given node (defined o) r)
+    by_access (Ok (Int z)) = gave refl
+    by_access (Ok (Pointer n offset)) = gave refl
+    by_access (Ok Null) = gave refl
+    by_access (Ok Undefined) = stopped
+    by_access (Err rule) = stopped
 
 -- ---- what a step finds on the stack
 
@@ -63,32 +83,35 @@ element_is node first d ts l v go e = at_depth_is d ts (go v l ts) e
 pub stored_is : (node first d : ℕ) (ts : List Temporary) (l : Location) (v : Value)
     (go : Value → Value → Location → List Temporary → Action Control) → length ts ≡ d
     → m.on_operand node first operand.Temporary (temporary.Value v ∷ temporary.Place l ∷ ts)
-    (λ x us. m.on_before keep.Stored us (λ b ws. m.on_target first target.Temporary ws (λ y xs. m.at_depth d xs (go x b y xs))))
-    ≡ go v Undefined l ts
+    (λ x us. m.on_before node keep.Stored us (λ b ws. m.on_target first target.Temporary ws (λ y xs. m.at_depth d xs
+    (go x b y xs)))) ≡ go v Undefined l ts
 unfolding m.on_operand m.on_value m.on_before m.on_target m.on_place
 stored_is node first d ts l v go e = at_depth_is d ts (go v Undefined l ts) e
 
+-- the value from before is there
 pub before_is : (node first d : ℕ) (ts : List Temporary) (l : Location) (b v : Value)
-    (go : Value → Value → Location → List Temporary → Action Control) → length ts ≡ d
+    (go : Value → Value → Location → List Temporary → Action Control) → length ts ≡ d → IsPresent b
     → m.on_operand node first operand.Temporary (temporary.Value v ∷ temporary.Value b ∷ temporary.Place l ∷ ts)
-    (λ x us. m.on_before keep.Before us (λ b ws. m.on_target first target.Temporary ws (λ y xs. m.at_depth d xs (go x b y xs))))
-    ≡ go v b l ts
+    (λ x us. m.on_before node keep.Before us (λ b ws. m.on_target first target.Temporary ws (λ y xs. m.at_depth d xs
+    (go x b y xs)))) ≡ go v b l ts
 unfolding m.on_operand m.on_value m.on_before m.on_target m.on_place
-before_is node first d ts l b v go e = at_depth_is d ts (go v b l ts) e
+before_is node first d ts l b v go e there =
+    ap (λ (o : Result Value ℕ). given node o >>= λ w. m.at_depth d ts (go v w l ts)) there ∙ at_depth_is d ts (go v b l ts) e
 
 pub local_stored_is : (node first d : ℕ) (ts : List Temporary) (v : Value)
     (go : Value → Value → List Temporary → Action Control) → length ts ≡ d
     → m.on_operand node first operand.Temporary (temporary.Value v ∷ ts)
-    (λ x us. m.on_before keep.Stored us (λ b ws. m.at_depth d ws (go x b ws))) ≡ go v Undefined ts
+    (λ x us. m.on_before node keep.Stored us (λ b ws. m.at_depth d ws (go x b ws))) ≡ go v Undefined ts
 unfolding m.on_operand m.on_value m.on_before
 local_stored_is node first d ts v go e = at_depth_is d ts (go v Undefined ts) e
 
 pub local_before_is : (node first d : ℕ) (ts : List Temporary) (b v : Value)
-    (go : Value → Value → List Temporary → Action Control) → length ts ≡ d
+    (go : Value → Value → List Temporary → Action Control) → length ts ≡ d → IsPresent b
     → m.on_operand node first operand.Temporary (temporary.Value v ∷ temporary.Value b ∷ ts)
-    (λ x us. m.on_before keep.Before us (λ b ws. m.at_depth d ws (go x b ws))) ≡ go v b ts
+    (λ x us. m.on_before node keep.Before us (λ b ws. m.at_depth d ws (go x b ws))) ≡ go v b ts
 unfolding m.on_operand m.on_value m.on_before
-local_before_is node first d ts b v go e = at_depth_is d ts (go v b ts) e
+local_before_is node first d ts b v go e there =
+    ap (λ (o : Result Value ℕ). given node o >>= λ w. m.at_depth d ts (go v w ts)) there ∙ at_depth_is d ts (go v b ts) e
 
 abbrev pub Even : Code → Type 0
 Even code = (p d : ℕ) → length (code.steps p d) ≡ code.size
@@ -138,6 +161,18 @@ module _ (ir : Ir) (rs : List Reading) (f : ℕ) (fn : IrFunction) (is : slice_g
       → Does us act vs (single node k)
   does_step us act vs node k acts = λ p d e ts r hd he st. one_made p e node (k d) (us ++ ts) act (λ a. vs a ++ ts) r st.0 he
       (acts p d ts hd)
+
+  -- what follows may know something of what is given
+  pub does_known : {A B : Type 0} (P : A → Type 0) (us : List Temporary) (act : Action A) (ms : A → List Temporary)
+      (g : A → Action B) (vs : B → List Temporary) (a b : Code) → Even a → ((r : Run) → Gives P (act r)) → Does us act ms a
+      → ((x : A) → P x → Does (ms x) (g x) vs b) → Does us (act >>= g) vs (then_code a b)
+  does_known P us act ms g vs a b even known da db = λ p d e ts r hd he st.
+      let st1 = stands_front fn.steps p (a.steps p d) _ st in
+      let st2 = stands_back fn.steps p (p + a.size) (a.steps p d) _ (ap (λ n. p + n) (even p d)) st in
+      let he2 : p + a.size + b.size ≡ e = omega (arith, he) in
+      leads_by ir rs _ _ _ (da p d (p + a.size) ts r hd refl st1)
+      (chain_given ir rs P (act r) g (λ w. here e (vs w ++ ts)) (λ x. here (p + a.size) (ms x ++ ts)) (known r)
+      (λ x q is. db x is (p + a.size) d e ts q hd he2 st2))
 
   pub does_then : {A B : Type 0} (us : List Temporary) (act : Action A) (ms : A → List Temporary) (g : A → Action B)
       (vs : B → List Temporary) (a b : Code)

@@ -30,7 +30,7 @@ use Rattle.ir.proofs.Leading.{Stands, stands_front, stands_back, Leads, Gives, g
 use Rattle.ir_gen.specs.Code as c
 use Rattle.ir_gen.specs.Code.{Code, Part, at_node, single, then_code, above, choice}
 use Rattle.ir_gen.proofs.Doing as d
-use Rattle.ir_gen.proofs.Doing.{Even, even_then, even_above, value, placed, one_is, two_is, beside_is, place_is, stored_is, before_is, local_stored_is, local_before_is}
+use Rattle.ir_gen.proofs.Doing.{IsPresent, loaded_present, Even, even_then, even_above, value, placed, one_is, two_is, beside_is, place_is, stored_is, before_is, local_stored_is, local_before_is}
 
 pub put_constant : (node first d : ℕ) (n : ℤ) (ts : List Temporary) (go : Value → List Temporary → Action Control) → length ts
     ≡ d
@@ -277,14 +277,14 @@ module _ (ir : Ir) (rs : List Reading) (f : ℕ) (fn : IrFunction) (is : slice_g
       from_place : (l : Location) → Does (placed l ∷ [])
           (load node l k >>= λ before. b >>= λ v. asked node (λ s. m.computed s o before v)
           >>= λ after. store node l k after true >>= λ stored. pure before) (λ w. value w ∷ []) more
-      from_place l = d.does_then ir rs f fn is first below (placed l ∷ []) (load node l k)
+      from_place l = d.does_known ir rs f fn is first below IsPresent (placed l ∷ []) (load node l k)
           (λ before. value before ∷ placed l ∷ [])
           (λ before. b >>= λ v. asked node (λ s. m.computed s o before v) >>= λ after. store node l k after true
           >>= λ stored. pure before)
-          (λ w. value w ∷ []) peek more1 (λ p d. refl)
+          (λ w. value w ∷ []) peek more1 (λ p d. refl) (loaded_present node l k)
           (d.does_step ir rs f fn is first below (placed l ∷ []) (load node l k) (λ before. value before ∷ placed l ∷ []) node
           (λ d. step.Peek d k) (λ p d ts hd. place_is d ts l _ hd))
-          (λ before. d.does_then ir rs f fn is first below (value before ∷ placed l ∷ []) b
+          (λ before there. d.does_then ir rs f fn is first below (value before ∷ placed l ∷ []) b
           (λ v. value v ∷ value before ∷ placed l ∷ [])
           (λ v. asked node (λ s. m.computed s o before v) >>= λ after. store node l k after true
           >>= λ stored. pure before)
@@ -304,7 +304,7 @@ module _ (ir : Ir) (rs : List Reading) (f : ℕ) (fn : IrFunction) (is : slice_g
           (store node l k after true) (λ x. before) (λ w. value w ∷ []) (single node (c.store_step k keep.Before))
           (d.does_step ir rs f fn is first below (value after ∷ value before ∷ placed l ∷ []) (store node l k after true)
           (λ w. value before ∷ []) node (c.store_step k keep.Before)
-          (λ p d ts hd. before_is node first d ts l before after _ hd)))))
+          (λ p d ts hd. before_is node first d ts l before after _ hd there)))))
 
   -- without a mark
   sim_scalar : (node : ℕ) (q : Part) (k : Kind) → Sim value (load node (at (first + q.local) q.offset) k)
@@ -368,10 +368,10 @@ module _ (ir : Ir) (rs : List Reading) (f : ℕ) (fn : IrFunction) (is : slice_g
       (record {
         even = even_then (c.put node (c.scalar_of q k)) more1 (λ p d. refl)
             (even_then (above 1 cb) more2 (even_above 1 cb sb.even) (λ p d. refl));
-        does = d.does_then ir rs f fn is first below [] (load node loc k) (λ before. value before ∷ [])
+        does = d.does_known ir rs f fn is first below IsPresent [] (load node loc k) (λ before. value before ∷ [])
             (from_load node k o loc b true) (λ w. value w ∷ []) (c.put node (c.scalar_of q k)) more1 (λ p d. refl)
-            (sim_scalar node q k).does
-            (λ before. d.does_then ir rs f fn is first below (value before ∷ []) b (λ v. value v ∷ value before ∷ [])
+            (loaded_present node loc k) (sim_scalar node q k).does
+            (λ before there. d.does_then ir rs f fn is first below (value before ∷ []) b (λ v. value v ∷ value before ∷ [])
             (λ v. asked node (λ s. m.computed s o before v) >>= λ after. store node loc k after false
             >>= λ stored. pure before)
             (λ w. value w ∷ []) (above 1 cb) more2 (even_above 1 cb sb.even)
@@ -388,7 +388,7 @@ module _ (ir : Ir) (rs : List Reading) (f : ℕ) (fn : IrFunction) (is : slice_g
             (λ x. before) (λ w. value w ∷ []) (c.store_local node (Some q) k keep.Before)
             (d.does_step ir rs f fn is first below (value after ∷ value before ∷ []) (store node loc k after false)
             (λ w. value before ∷ []) node (λ d. step.StoreLocal d q.local q.offset k operand.Temporary keep.Before)
-            (λ p d ts hd. local_before_is node first d ts before after _ hd)))));
+            (λ p d ts hd. local_before_is node first d ts before after _ hd there)))));
       })
     where
       loc : Location

@@ -1,5 +1,5 @@
 -- The form that is made of a program serves it.
-use Rattle.std.proofs.Common.{◌≡◌, ℕ, zero, suc, ◌+◌, ◌<◌, List, [], ◌∷◌, ◌++◌, length, map, take, Option, Some, None, true, refl, sym, ap, ◌∙◌, subst, arith}
+use Rattle.std.proofs.Common.{◌≡◌, ℕ, zero, suc, ◌+◌, ◌<◌, List, [], ◌∷◌, ◌++◌, length, map, take, Option, Some, None, true, refl, sym, ap, ◌∙◌, subst, arith, length-append}
 use Rattle.std.specs.Prelude.{slice_get}
 use Rattle.base16.specs.declared.image.Kind.{Kind}
 use Rattle.core_tree.specs.declared.program.Core.{Core}
@@ -11,7 +11,8 @@ use Rattle.core_tree.specs.declared.types.Ty.{Ty}
 use Rattle.core_tree.specs.declared.types.Slot.{Slot}
 use Rattle.core_tree.specs.Layout.{layout, kind_of}
 use Rattle.core_tree.specs.Numbers.{function_numbers}
-use Rattle.core_tree.specs.LawfulCore.{Every, IsFunction, LawfulCore, scope_of, text_of}
+use Rattle.core_tree.specs.Rules.{is_scalar}
+use Rattle.core_tree.specs.LawfulCore.{Every, IsObject, IsFunction, LawfulCore, scope_of, text_of}
 use Rattle.c_values.specs.declared.value.Value.TheVariants.{Undefined}
 use Rattle.c_values.specs.declared.value.Cell.{Cell}
 use Rattle.c_values.specs.declared.state.Object.{Object}
@@ -23,20 +24,24 @@ use Rattle.ir.specs.declared.form.Step.{Step}
 use Rattle.ir.specs.declared.control.Control.TheVariants.{Calling}
 use Rattle.ir.specs.Machine as m
 use Rattle.ir.specs.Jumps.{JumpsAhead}
+use Rattle.ir.specs.Typed.{IsSingle, HasParameters, AllTyped}
 use Rattle.ir.proofs.Once.{steps_once}
 use Rattle.ir_gen.specs.Built.{stmts}
 use Rattle.ir_gen.specs.Form as f
 use Rattle.ir_gen.specs.Locals as locals
 use Rattle.ir_gen.specs.Form.{IsBuilt, AreBuilt, AreScalars, DeclareTheirOwn, form_of, function_of, locals_from, globals_from}
 use Rattle.ir_gen.specs.Names.{AllNamed}
+use Rattle.ir_gen.specs.Shapes.{HasShape, HaveShapes}
 use Rattle.ir_gen.specs.Serves.{Serves, ServesFunction}
 use Rattle.ir_gen.proofs.Calls.{Made, stands_self}
 use Rattle.ir_gen.proofs.Order.{function_ordered}
 use Rattle.ir_gen.proofs.StmtRows.{function_fits}
 use Rattle.ir_gen.proofs.StmtDepths.{fits_frame, jumps_inside}
 use Rattle.ir_gen.proofs.Owning.{owned_at, function_owned}
-use Rattle.ir_gen.proofs.Naming.{HasScope, named_at}
-use Rattle.ir_gen.proofs.StmtNaming.{function_named}
+use Rattle.ir_gen.proofs.LawfulStatements.{scalar_slots}
+use Rattle.ir_gen.proofs.Shaping.{HasScope}
+use Rattle.ir_gen.proofs.Shapes.{shaped_names, shaped_typed}
+use Rattle.ir_gen.proofs.StmtShaping.{function_shaped}
 use Rattle.ir_gen.proofs.Shortness.{short, program_cost}
 use Rattle.ir_gen.proofs.Served.{FormOf, same_states, same_stop}
 
@@ -210,7 +215,7 @@ form_is core h = record {
   ordered = λ n p fn s e g. ordered_in core.structs core.functions n p fn s e g;
 }
 
--- ---- what the steps name
+-- ---- what the steps name, and their types
 
 within : {A : Type 0} (xs : List A) (n : ℕ) (x : A) → slice_get xs n ≡ Some x → n < length xs
 within [] n x e = absurd (grind (arith, e))
@@ -242,23 +247,53 @@ has_scope core x = record {
   functions = λ n g e. (function_of core.structs g, function_in core.structs core.functions n g e, refl);
 }
 
+params_single : (core : Core) (x : Function) (n : ℕ) (ps ls : List Ty)
+    → Every (λ t. (is_scalar t ≡ true) × IsObject core t) ps
+    → Every IsSingle (take (length ps) (locals_from core.structs x n (ps ++ ls)))
+params_single core x n [] ls h = tt
+params_single core x n (t ∷ ps) ls h =
+    ((kind_of t, scalar_slots core.structs t h.0.0), params_single core x (n + 1) ps ls h.1)
+
+has_parameters : (core : Core) (x : Function) → Every (λ t. (is_scalar t ≡ true) × IsObject core t) x.params
+    → HasParameters (function_of core.structs x) (length x.params)
+has_parameters core x h = record {
+  count = refl;
+  among = omega (arith, locals_many core.structs x 0 (x.params ++ x.locals), length-append x.params x.locals);
+  single = params_single core x 0 x.params x.locals h;
+}
+
+function_shapes : (core : Core) → LawfulCore core → (n : ℕ) (x : Function) → slice_get core.functions n ≡ Some x
+    → HaveShapes (form_of core) (function_of core.structs x) (function_of core.structs x).steps
+function_shapes core h n x e =
+    let own = every_at (IsFunction core true) core.functions n x h.functions e in
+    function_shaped (form_of core) (function_of core.structs x) core.structs (after.objects_of core.structs x)
+    (after.is_main x) (text_of core true x) (length x.params) x.node x.body (has_parameters core x own.params) own.body
+    (has_scope core x)
+
 function_names : (core : Core) → LawfulCore core → (n : ℕ) (x : Function) → slice_get core.functions n ≡ Some x
     → AllNamed (form_of core) (function_of core.structs x)
 function_names core h n x e = λ p s at_p.
-    let own = every_at (IsFunction core true) core.functions n x h.functions e in
-    named_at (form_of core) (function_of core.structs x) p (function_of core.structs x).steps s
-    (function_named (form_of core) (function_of core.structs x) core.structs (after.objects_of core.structs x)
-    (after.is_main x) (text_of core true x) (length x.params) x.node x.body refl own.body (has_scope core x)) at_p
+    shaped_names (form_of core) (function_of core.structs x) s.kind
+    (every_at (λ (s : Step). HasShape (form_of core) (function_of core.structs x) s.kind) (function_of core.structs x).steps p s
+    (function_shapes core h n x e) at_p)
 
-names_of : (core : Core) → LawfulCore core → (n : ℕ) (x : Function) (fn : IrFunction) → slice_get core.functions n ≡ Some x
-    → slice_get (form_of core).functions n ≡ Some fn → AllNamed (form_of core) fn
-names_of core h n x fn e g =
-    let same : function_of core.structs x ≡ fn = ap or_that (sym (function_in core.structs core.functions n x e) ∙ g) in
-    subst (λ (z : IrFunction). AllNamed (form_of core) z) same (function_names core h n x e)
-  where
-    or_that : Option IrFunction → IrFunction
-    or_that None = fn
-    or_that (Some z) = z
+-- a function of the form is made of the one of the program in its place
+module _ (core : Core) (n : ℕ) (x : Function) (fn : IrFunction) (e : slice_get core.functions n ≡ Some x)
+    (g : slice_get (form_of core).functions n ≡ Some fn) where
+  made_so : function_of core.structs x ≡ fn
+  made_so = ap or_that (sym (function_in core.structs core.functions n x e) ∙ g)
+    where
+      or_that : Option IrFunction → IrFunction
+      or_that None = fn
+      or_that (Some z) = z
+
+  names_of : LawfulCore core → AllNamed (form_of core) fn
+  names_of h = subst (λ (z : IrFunction). AllNamed (form_of core) z) made_so (function_names core h n x e)
+
+  types_of : LawfulCore core → AllTyped fn
+  types_of h = subst (λ (z : IrFunction). AllTyped z) made_so
+      (shaped_typed (form_of core) (function_of core.structs x) (function_of core.structs x).steps
+      (function_shapes core h n x e))
 
 -- the form that is made of a program serves it
 pub form_serves : (core : Core) → IsBuilt core → Serves core (form_of core)
@@ -270,7 +305,9 @@ form_serves core h =
       functions = λ n x e. (function_of core.structs x, function_in core.structs core.functions n x e, serves_of core x);
       many = functions_many core.structs core.functions;
       main = h.main;
-      names = names_of core;
+      names = λ lawful n x fn e g. names_of core n x fn e g lawful;
+      types = λ lawful plain n x fn e g. types_of core n x fn e g lawful;
+      tables = λ plain. refl;
       globals = refl;
       once = λ rs. steps_once (form_of core) rs form.ordered;
       short = λ lawful rs c r q made other reach.

@@ -8,6 +8,7 @@ use Rattle.base16.specs.declared.integer.IntType.TheVariants as int
 use Rattle.core_tree.specs.declared.types.Ty.{Ty, out-Ty, the_lemmas as type_lemmas}
 use Rattle.core_tree.specs.declared.types.Ty.TheVariants as ty
 use Rattle.core_tree.specs.declared.types.Ty.TheOpen.{Ty-F}
+use Rattle.core_tree.specs.declared.types.Slot.{Slot}
 use Rattle.core_tree.specs.declared.types.Struct.{Struct}
 use Rattle.core_tree.specs.declared.expressions.Expr.{Expr}
 use Rattle.core_tree.specs.declared.expressions.Place.{Place}
@@ -191,10 +192,10 @@ mutual
 
 -- ---- parameters are scalars
 
-pub layout-Num : (known : List Layout) (t : IntType) → layout_in known (ty.Num t) ≡ integer t
+layout-Num : (known : List Layout) (t : IntType) → layout_in known (ty.Num t) ≡ integer t
 layout-Num known t = search (rules, type_lemmas)
 
-pub layout-Pointer : (known : List Layout) (to : Ty) (r : Bool) → layout_in known (ty.Pointer to r) ≡ scalar kind.Pointer 2 true
+layout-Pointer : (known : List Layout) (to : Ty) (r : Bool) → layout_in known (ty.Pointer to r) ≡ scalar kind.Pointer 2 true
 layout-Pointer known to r = search (rules, type_lemmas)
 
 kind-Num : (t : IntType) → kind_of (ty.Num t) ≡ kind_of_int t
@@ -205,31 +206,38 @@ kind-Pointer : (to : Ty) (r : Bool) → kind_of (ty.Pointer to r) ≡ kind.Point
 unfolding kind_of
 kind-Pointer to r = search (rules, type_lemmas)
 
-integer_kind : (t : IntType) → first_kind (integer t).slots ≡ kind_of_int t
-integer_kind int.Char = refl
-integer_kind int.Int = refl
-integer_kind int.UInt = refl
+abbrev only : Kind → List Slot
+only k = record { offset = 0; kind = k } ∷ []
 
-abbrev kind_in : Layout → Kind
-kind_in l = first_kind l.slots
+integer_slots : (t : IntType) → (integer t).slots ≡ only (kind_of_int t)
+integer_slots int.Char = refl
+integer_slots int.Int = refl
+integer_slots int.UInt = refl
+
+abbrev slots_in : Layout → List Slot
+slots_in l = l.slots
 
 scalar_by : (structs : List Struct) (t : Ty) (l : Ty-F Ty) → out-Ty t ≡ l → scalar_layer l ≡ true
-    → first_kind (layout structs t).slots ≡ kind_of t
+    → (layout structs t).slots ≡ only (kind_of t)
 scalar_by structs t (Ty-F.Num i) at_l is =
     let h : t ≡ ty.Num i = search (rules, type_lemmas) in
-    subst (λ (u : Ty). first_kind (layout structs u).slots ≡ kind_of u) (sym h)
-    (ap kind_in (layout-Num (layouts structs) i) ∙ (integer_kind i ∙ sym (kind-Num i)))
+    subst (λ (u : Ty). (layout structs u).slots ≡ only (kind_of u)) (sym h)
+    (ap slots_in (layout-Num (layouts structs) i) ∙ (integer_slots i ∙ ap only (sym (kind-Num i))))
 scalar_by structs t (Ty-F.Pointer to r) at_l is =
     let h : t ≡ ty.Pointer to r = search (rules, type_lemmas) in
-    subst (λ (u : Ty). first_kind (layout structs u).slots ≡ kind_of u) (sym h)
-    (ap kind_in (layout-Pointer (layouts structs) to r) ∙ sym (kind-Pointer to r))
+    subst (λ (u : Ty). (layout structs u).slots ≡ only (kind_of u)) (sym h)
+    (ap slots_in (layout-Pointer (layouts structs) to r) ∙ ap only (sym (kind-Pointer to r)))
 scalar_by structs t Ty-F.Void at_l is = absurd (not_both false refl is)
 scalar_by structs t (Ty-F.Array of count) at_l is = absurd (not_both false refl is)
 scalar_by structs t (Ty-F.Struct tag) at_l is = absurd (not_both false refl is)
 
-scalar_is : (structs : List Struct) (t : Ty) → is_scalar t ≡ true → first_kind (layout structs t).slots ≡ kind_of t
+-- a scalar type has one scalar
+pub scalar_slots : (structs : List Struct) (t : Ty) → is_scalar t ≡ true → (layout structs t).slots ≡ only (kind_of t)
 unfolding is_scalar
-scalar_is structs t is = scalar_by structs t (out-Ty t) refl is
+scalar_slots structs t is = scalar_by structs t (out-Ty t) refl is
+
+scalar_is : (structs : List Struct) (t : Ty) → is_scalar t ≡ true → first_kind (layout structs t).slots ≡ kind_of t
+scalar_is structs t is = ap first_kind (scalar_slots structs t is)
 
 scalars_are : (core : Core) (ts : List Ty) → Every (λ t. (is_scalar t ≡ true) × IsObject core t) ts
     → AreScalars core.structs ts

@@ -18,8 +18,9 @@ pub mod StmtDepths
 pub mod Owning
 pub mod LawfulTrees
 pub mod LawfulStatements
-pub mod Naming
-pub mod StmtNaming
+pub mod Shapes
+pub mod Shaping
+pub mod StmtShaping
 pub mod Costing
 pub mod StmtCosting
 pub mod Shortness

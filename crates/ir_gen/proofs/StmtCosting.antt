@@ -1,18 +1,15 @@
 -- What the steps of a lawful program's statements and functions cost against the number of their nodes.
-use Rattle.std.proofs.Common.{◌≡◌, ℕ, ◌+◌, ◌*◌, ◌≤◌, List, [], ◌∷◌, ◌++◌, length, map, Option, Some, None, Bool, true, false, refl, sym, ap, ◌∙◌, subst, arith, rules}
+use Rattle.std.proofs.Common.{◌≡◌, ℕ, ◌+◌, ◌*◌, ◌≤◌, List, [], ◌∷◌, ◌++◌, length, map, Option, Some, None, Bool, true, false, refl, sym, ap, subst, arith, rules}
 use Rattle.std.specs.Prelude.{ℤ}
 use Rattle.base16.specs.declared.image.Kind.{Kind}
 use Rattle.base16.specs.declared.integer.IntType.{IntType}
-use Rattle.base16.specs.declared.integer.IntType.TheVariants as int
 use Rattle.core_tree.specs.Nodes.{total, expr_nodes, place_nodes, init_nodes, stmt_nodes, stmt_kind_nodes, group_nodes, function_nodes}
 use Rattle.core_tree.specs.Heights.{optional}
-use Rattle.core_tree.specs.Layout.{Layout, layout, layouts, integer}
-use Rattle.core_tree.specs.Rules.{is_scalar, scalar_layer}
+use Rattle.core_tree.specs.Layout.{layout}
+use Rattle.core_tree.specs.Rules.{is_scalar}
 use Rattle.core_tree.specs.declared.types.Slot.{Slot}
 use Rattle.core_tree.specs.declared.types.Struct.{Struct}
-use Rattle.core_tree.specs.declared.types.Ty.{Ty, out-Ty, the_lemmas as type_lemmas}
-use Rattle.core_tree.specs.declared.types.Ty.TheVariants as ty
-use Rattle.core_tree.specs.declared.types.Ty.TheOpen.{Ty-F}
+use Rattle.core_tree.specs.declared.types.Ty.{Ty}
 use Rattle.core_tree.specs.declared.expressions.Expr.{Expr}
 use Rattle.core_tree.specs.declared.expressions.Place.{Place}
 use Rattle.core_tree.specs.declared.statements.Init.{Init}
@@ -34,8 +31,8 @@ use Rattle.ir_gen.specs.Body as b
 use Rattle.ir_gen.specs.Body.{Body, Guard, Part, Grouped}
 use Rattle.ir_gen.proofs.StmtTree.{grouped}
 use Rattle.ir_gen.proofs.Weighing.{bring_short}
-use Rattle.ir_gen.proofs.LawfulStatements.{layout-Num, layout-Pointer}
-use Rattle.ir_gen.proofs.StmtNaming.{body-Expr, body-Block, body-If, body-IfElse, body-While, body-Do, body-For, body-ForFirst, body-Switch, body-group, body-Break, body-Continue, body-Return, body-Stamped, body-Timely, body-Expires, body-Declare}
+use Rattle.ir_gen.proofs.LawfulStatements.{scalar_slots}
+use Rattle.ir_gen.proofs.StmtShaping.{body-Expr, body-Block, body-If, body-IfElse, body-While, body-Do, body-For, body-ForFirst, body-Switch, body-group, body-Break, body-Continue, body-Return, body-Stamped, body-Timely, body-Expires, body-Declare}
 use Rattle.ir_gen.proofs.Costing.{counted, all_counted, counted_append, Costs, cheap}
 
 pub record CostsBody (n : ℕ) (code : Body) : Type 0 where
@@ -180,31 +177,8 @@ marked_cost : (n offset : ℕ) (k : Kind) (marked : Bool) (x : Operand) → mark
 marked_cost n offset k true x h = omega arith
 marked_cost n offset k false x h = absurd (grind (arith, h))
 
-one_slot_by : (structs : List Struct) (t : Ty) (l : Ty-F Ty) → out-Ty t ≡ l → scalar_layer l ≡ true
-    → length (layout structs t).slots ≡ 1
-one_slot_by structs t (Ty-F.Num i) at_l is =
-    let h : t ≡ ty.Num i = search (rules, type_lemmas) in
-    subst (λ (u : Ty). length (layout structs u).slots ≡ 1) (sym h)
-    (ap slots_in (layout-Num (layouts structs) i) ∙ integer_slot i)
-  where
-    slots_in : Layout → ℕ
-    slots_in l = length l.slots
-
-    integer_slot : (i : IntType) → slots_in (integer i) ≡ 1
-    integer_slot int.Char = refl
-    integer_slot int.Int = refl
-    integer_slot int.UInt = refl
-one_slot_by structs t (Ty-F.Pointer to r) at_l is =
-    let h : t ≡ ty.Pointer to r = search (rules, type_lemmas) in
-    subst (λ (u : Ty). length (layout structs u).slots ≡ 1) (sym h)
-    (ap (λ (l : Layout). length l.slots) (layout-Pointer (layouts structs) to r))
-one_slot_by structs t Ty-F.Void at_l is = absurd (grind (arith, is))
-one_slot_by structs t (Ty-F.Array of many) at_l is = absurd (grind (arith, is))
-one_slot_by structs t (Ty-F.Struct tag) at_l is = absurd (grind (arith, is))
-
 one_slot : (structs : List Struct) (t : Ty) → is_scalar t ≡ true → length (layout structs t).slots ≡ 1
-unfolding is_scalar
-one_slot structs t is = one_slot_by structs t (out-Ty t) refl is
+one_slot structs t is = ap (λ (l : List Slot). length l) (scalar_slots structs t is)
 
 module _ (S : List Struct) (O : List (List Slot)) where
   -- in each place a known cost

@@ -337,7 +337,7 @@ module _ (structs : List Struct) (rs : List Reading) (call : mean.Calls) (first 
         sim = d.sim_two ir rs f fn is first below value placed _ _ _ _ node
             (λ d. step.Sum d (stride structs ty) (int_type_of (fc a).ty) (int_type_of (fc b).ty)
             (c.swapped (fc a).ty) operand.Temporary operand.Temporary)
-            (λ x y. asked node (λ s. sum_of s false (stride structs ty) (numbered (int_type_of (fc a).ty) x)
+            (λ x y. asked node (λ s. sum_of s (c.swapped (fc a).ty) false (stride structs ty) (numbered (int_type_of (fc a).ty) x)
             (numbered (int_type_of (fc b).ty) y)))
             (of_one a (both_left (built.expr_kind (fc a).kind) _ fine))
             (of_one b (both_right (built.expr_kind (fc a).kind) _ fine))

@@ -8,5 +8,6 @@ pub mod Sizes
 pub mod Ranges
 pub mod Plain
 pub mod Names
+pub mod Shapes
 pub mod Short
 pub mod Example

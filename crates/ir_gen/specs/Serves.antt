@@ -1,7 +1,7 @@
 -- A form serves a program: its run has the same states after the same marks and the same stops, it has the program's
--- functions and variables, its steps are no longer than the cost table says, find room in the frame for what they leave and
--- name what is there, and between two marks it makes no step twice and not much in all.
-use Rattle.std.specs.Prelude.{◌≡◌, ℕ, List, ◌++◌, length, Some, slice_get}
+-- functions and variables, its steps are no longer than the cost table says, find room in the frame for what they leave, name
+-- what is there and are typed, and between two marks it makes no step twice and not much in all.
+use Rattle.std.specs.Prelude.{◌≡◌, ℕ, List, [], ◌++◌, length, Some, slice_get}
 use Rattle.base16.specs.declared.reading.Reading.{Reading}
 use Rattle.core_tree.specs.declared.program.Core.{Core}
 use Rattle.core_tree.specs.declared.program.Function.{Function}
@@ -17,10 +17,12 @@ use Rattle.ir.specs.declared.form.IrState.TheVariants as form
 use Rattle.ir.specs.Ends.{IsFine}
 use Rattle.ir.specs.Machine as m
 use Rattle.ir.specs.Laws.{MakesStepsOnce}
+use Rattle.ir.specs.Typed.{AllTyped}
 use Rattle.ir_gen.specs.Form.{locals_from, globals_from}
 use Rattle.ir_gen.specs.Sizes.{FitsRows}
 use Rattle.ir_gen.specs.Ranges.{HaveNodes, FitsFrame, JumpsInside}
 use Rattle.ir_gen.specs.Names.{AllNamed}
+use Rattle.ir_gen.specs.Plain.{IsPlain}
 use Rattle.ir_gen.specs.Short.{StaysShort}
 
 -- no rule is broken
@@ -70,6 +72,10 @@ pub record Serves (core : Core) (ir : Ir) : Type 0 where
   -- what the steps of a lawful program name is there
   pub names : LawfulCore core → (n : ℕ) (x : Function) (fn : IrFunction) → slice_get core.functions n ≡ Some x
       → slice_get ir.functions n ≡ Some fn → AllNamed ir fn
+  -- and where no statement is annotated its steps are typed, and there is no table of a block
+  pub types : LawfulCore core → IsPlain core → (n : ℕ) (x : Function) (fn : IrFunction) → slice_get core.functions n ≡ Some x
+      → slice_get ir.functions n ≡ Some fn → AllTyped fn
+  pub tables : IsPlain core → ir.tables ≡ []
   -- the variables where they stand
   pub globals : ir.globals ≡ globals_from core 0 core.globals
   -- between two marks no step is made twice

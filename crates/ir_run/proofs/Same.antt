@@ -6,7 +6,8 @@ use Rattle.c_values.specs.declared.value.Value.{Value}
 use Rattle.c_values.specs.declared.value.Value.TheVariants.{Int, Null, Undefined}
 use Rattle.c_values.specs.declared.value.Location.{Location}
 use Rattle.c_values.specs.Operators.{int_eq, truth}
-use Rattle.c_run.specs.Runs.{Run, Outcome, Went, Stopped, Action, and_then, pure, asked, mark}
+use Rattle.c_values.specs.Values.{present}
+use Rattle.c_run.specs.Runs.{Run, Outcome, Went, Stopped, Action, and_then, pure, given, asked, mark}
 use Rattle.c_run.specs.Actions.{load}
 use Rattle.ir.specs.declared.form.Ir.{Ir}
 use Rattle.ir.specs.declared.form.Operand.{Operand}
@@ -127,14 +128,20 @@ module _ {B : Type 0} (k : B → Action Control) where
   target_same first target.Temporary ts r f g h = place_same k ts r f g h
   target_same first (target.Known of offset) ts r f g h = h (m.known first of offset) ts
 
-  before_same : (keeps : Keep) (ts : List Temporary) (r : Run) (f : Value → List Temporary → Action Control) (g : Taken Value
-      → Action B)
-      → ((v : Value) (us : List Temporary) → f v us r ≡ and_then (g (record { value = v; rest = us }) r) k)
-      → m.on_before keeps ts f r ≡ and_then (and_then (d.before_of keeps ts r) g) k
+  before_same : (node : ℕ) (keeps : Keep) (ts : List Temporary) (r : Run) (f : Value → List Temporary
+      → Action Control) (g : Taken Value → Action B)
+      → ((v : Value) (us : List Temporary) (q : Run) → f v us q ≡ and_then (g (record { value = v; rest = us }) q) k)
+      → m.on_before node keeps ts f r ≡ and_then (and_then (d.before_of node keeps ts r) g) k
   unfolding m.on_before d.before_of
-  before_same keep.Before ts r f g h = value_same k ts r f g h
-  before_same keep.Nothing ts r f g h = h Undefined ts
-  before_same keep.Stored ts r f g h = h Undefined ts
+  before_same node keep.Before ts r f g h =
+      value_same k ts r (λ v us. λ q. and_then (given node (present v) q) (λ w. f w us))
+      (λ v. λ q. and_then (and_then (given node (present v.value) q) (λ w. d.untaken v.rest w)) g)
+      (λ v us. then_same k (given node (present v) r) (λ w. f w us) (λ w. g (record { value = w; rest = us }))
+      (λ w q2. h w us q2) ∙ ap (λ o. and_then o k) (sym (assoc (given node (present v) r) (λ w. d.untaken us w) g)))
+      ∙ ap (λ o. and_then o k) (sym (assoc (d.top_value ts r)
+      (λ v. λ q. and_then (given node (present v.value) q) (λ w. d.untaken v.rest w)) g))
+  before_same node keep.Nothing ts r f g h = h Undefined ts r
+  before_same node keep.Stored ts r f g h = h Undefined ts r
 
   test_same : (node first : ℕ) (t : Test) (ts : List Temporary) (r : Run) (f : Value → List Temporary
       → Action Control) (g : Taken Value → Action B)
@@ -219,12 +226,12 @@ module _ (ir : Ir) (rs : List Reading) (f p first : ℕ) (below : List Frame) wh
       (λ l us. depth_same arrive n us r _ _ (then_same arrive _ _ (d.gave p (temporary.Place l ∷ us)) (λ z q2. refl)))
   does_same node (step.Store n to k x keeps) ts r =
       operand_same arrive node first x ts r _ _
-      (λ v us q. before_same arrive keeps us q _ _ (λ b ws. target_same arrive first to ws q _ _ (λ l xs.
-      depth_same arrive n xs q _ _ (then_same arrive _ _ (λ w. d.next p (m.kept keeps w b xs)) (λ w q2. refl)))))
+      (λ v us q. before_same arrive node keeps us q _ _ (λ b ws q1. target_same arrive first to ws q1 _ _ (λ l xs.
+      depth_same arrive n xs q1 _ _ (then_same arrive _ _ (λ w. d.next p (m.kept keeps w b xs)) (λ w q2. refl)))))
   does_same node (step.StoreLocal n local offset k x keeps) ts r =
       operand_same arrive node first x ts r _ _
-      (λ v us q. before_same arrive keeps us q _ _
-      (λ b ws. depth_same arrive n ws q _ _ (then_same arrive _ _ (λ w. d.next p (m.kept keeps w b ws)) (λ w q2. refl))))
+      (λ v us q. before_same arrive node keeps us q _ _
+      (λ b ws q1. depth_same arrive n ws q1 _ _ (then_same arrive _ _ (λ w. d.next p (m.kept keeps w b ws)) (λ w q2. refl))))
   does_same node (step.Update n to k op x keeps) ts r =
       operand_same arrive node first x ts r _ _
       (λ v us q. target_same arrive first to us q _ _

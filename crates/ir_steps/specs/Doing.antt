@@ -13,7 +13,7 @@ use Rattle.c_values.specs.declared.value.Location.{Location}
 use Rattle.c_values.specs.Operators.{int_eq, truth}
 use Rattle.c_values.specs.Objects.{with_cleared}
 use Rattle.c_values.specs.Pointers.{at, pointed, member_at, element, sum_of, address}
-use Rattle.c_values.specs.Values.{integer, numbered, operated_one, converted}
+use Rattle.c_values.specs.Values.{integer, numbered, present, operated_one, converted}
 use Rattle.c_run.specs.Runs.{Action, ◌>>=◌, ◌>>◌, pure, given, asked, changed, mark}
 use Rattle.c_run.specs.Actions.{load, store, sense, emit, stamped, timely, open_block, check_block, close_block}
 use Rattle.ir.specs.declared.form.Ir.{Ir}
@@ -97,9 +97,12 @@ test_of node first (test.Computed op left right) ts = do
   untaken a.rest v
 
 -- the value from before, which stands below the value of a store where it is kept
-unfoldable pub before_of : Keep → List Temporary → Action (Taken Value)
-before_of keep.Before ts = top_value ts
-before_of _ ts = untaken ts Undefined
+unfoldable pub before_of : ℕ → Keep → List Temporary → Action (Taken Value)
+before_of node keep.Before ts = do
+  v ← top_value ts
+  w ← given node (present v.value)
+  untaken v.rest w
+before_of node _ ts = untaken ts Undefined
 
 -- ---- steps
 
@@ -227,7 +230,7 @@ module _ (ir : Ir) (rs : List Reading) where
   sum_step node p first d size left_type right_type swapped left right ts = do
     a ← operands_of node first left right ts
     at_depth d a.rest
-    l ← asked node (λ s. sum_of s false size (numbered left_type a.value.0) (numbered right_type a.value.1))
+    l ← asked node (λ s. sum_of s swapped false size (numbered left_type a.value.0) (numbered right_type a.value.1))
     placed p a.rest l
 
   -- the pointer to a place
@@ -258,7 +261,7 @@ module _ (ir : Ir) (rs : List Reading) where
   abbrev pub store_step : (node p first : ℕ) → ℕ → Target → Kind → Operand → Keep → List Temporary → Action Moved
   store_step node p first d to k x keeps ts = do
     v ← operand_of node first x ts
-    b ← before_of keeps v.rest
+    b ← before_of node keeps v.rest
     a ← target_of first to b.rest
     at_depth d a.rest
     w ← store node a.value k v.value true
@@ -268,7 +271,7 @@ module _ (ir : Ir) (rs : List Reading) where
   abbrev pub store_local_step : (node p first : ℕ) → ℕ → ℕ → ℕ → Kind → Operand → Keep → List Temporary → Action Moved
   store_local_step node p first d n offset k x keeps ts = do
     v ← operand_of node first x ts
-    b ← before_of keeps v.rest
+    b ← before_of node keeps v.rest
     at_depth d b.rest
     w ← store node (at (first + n) offset) k v.value false
     next p (m.kept keeps w b.value b.rest)

@@ -68,9 +68,10 @@ pub fn computed(
             size,
             left: left_type,
             right: right_type,
-            swapped: _,
+            swapped,
         } => pointer_sum(
             state,
+            swapped,
             minus,
             size,
             numbered_as(left_type, left),

@@ -113,7 +113,7 @@ impl Made<'_> {
             depth target kind value keep temporaries.old run.old) result temporaries.new run.new }
     {
         let value = operand_of(run, temporaries, self.node, self.first, value)?;
-        let before = before_of(run, temporaries, keep)?;
+        let before = before_of(run, temporaries, self.node, keep)?;
         let place = target_of(run, temporaries, self.first, target)?;
         at_depth(run, depth, temporaries)?;
         let stored = run.store(self.alloc, self.node, place, kind, value, true)?;
@@ -137,7 +137,7 @@ impl Made<'_> {
             self.now.first depth local offset kind value keep temporaries.old run.old) result temporaries.new run.new }
     {
         let value = operand_of(run, temporaries, self.node, self.first, value)?;
-        let before = before_of(run, temporaries, keep)?;
+        let before = before_of(run, temporaries, self.node, keep)?;
         at_depth(run, depth, temporaries)?;
         let place = local_at(self.first, local, offset)?;
         let stored = run.store(self.alloc, self.node, place, kind, value, false)?;

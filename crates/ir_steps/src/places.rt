@@ -110,7 +110,7 @@ impl Made<'_> {
         let place = given(
             run,
             self.node,
-            sum_of(run.state(), false, size, left, right),
+            sum_of(run.state(), swapped, false, size, left, right),
         )?;
         placed(temporaries, self.position, place)
     }

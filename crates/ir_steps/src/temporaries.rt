@@ -6,9 +6,9 @@ ghost use Rattle.c_run.specs.Runs as runs;
 ghost use Rattle.ir_steps.specs.Doing as spec;
 ghost use Rattle.ir_steps.specs.Giving.{Takes, Moves};
 
-use crate::asked::{STUCK, behind, computed, known};
+use crate::asked::{STUCK, behind, computed, given, known};
 use c_run::{Halt, Run};
-use c_values::{Location, Value};
+use c_values::{Location, Value, present};
 use ir::{Keep, Operand, Stack, Target, Temporary, Test};
 
 /// So many temporaries are left.
@@ -140,11 +140,19 @@ pub fn test_of(
 
 /// The value from before, where it is kept.
 #[tactic(auto, unfolding(crate::specs::Doing::before_of))]
-pub fn before_of(run: &Run, temporaries: &mut Stack<Temporary>, keep: Keep) -> Result<Value, Halt>
-    ensures { Takes (spec.before_of keep temporaries.old run.now) result temporaries.new run.now }
+pub fn before_of(
+    run: &Run,
+    temporaries: &mut Stack<Temporary>,
+    node: u32,
+    keep: Keep,
+) -> Result<Value, Halt>
+    ensures { Takes (spec.before_of node keep temporaries.old run.now) result temporaries.new run.now }
 {
     match keep {
-        Keep::Before => top_value(run, temporaries),
+        Keep::Before => {
+            let before = top_value(run, temporaries)?;
+            given(run, node, present(before))
+        }
         Keep::Nothing | Keep::Stored => Ok(Value::Undefined),
     }
 }

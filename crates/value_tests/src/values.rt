@@ -3,7 +3,8 @@
 use base16::{BinaryOp, IntType, Kind, NoMemory, Sequence, UnaryOp};
 use c_values::{
     Call, Cell, Cells, Location, Object, State, Value, accessed, address, binary, compared,
-    difference, element, member_at, moved, pointed, pointer_sum, sum_of, truth_of, unary,
+    converted, difference, element, fit, member_at, moved, pointed, pointer_sum, sum_of, truth_of,
+    unary,
 };
 use std::alloc::Global;
 use std::process::Abort;
@@ -244,7 +245,12 @@ fn an_access_finds_the_scalar_of_its_kind(rt: HostRuntime) -> Result<(), Fail> {
 
 /// The sum of a pointer and so many scalars of two bytes.
 fn sum(state: &State, left: Value, right: Value) -> Result<Value, u8> {
-    pointer_sum(state, false, 2, left, right)
+    pointer_sum(state, false, false, 2, left, right)
+}
+
+/// The sum of so many scalars of two bytes and a pointer.
+fn swapped_sum(state: &State, left: Value, right: Value) -> Result<Value, u8> {
+    pointer_sum(state, true, false, 2, left, right)
 }
 
 #[test]
@@ -255,7 +261,12 @@ fn pointers_move_in_their_objects(rt: HostRuntime) -> Result<(), Fail> {
         sum(&state, pointer(0, 0), Value::Int(3)),
         Ok(pointer(0, 6))
     );
-    assert_eq!(rt; sum(&state, one, pointer(0, 2)), Ok(pointer(0, 4)));
+    assert_eq!(rt; swapped_sum(&state, one, pointer(0, 2)), Ok(pointer(0, 4)));
+    assert_eq!(rt; sum(&state, one, pointer(0, 2)), Err(0));
+    assert_eq!(rt;
+        swapped_sum(&state, Value::Undefined, pointer(2, 0)),
+        Err(6)
+    );
     assert_eq!(rt; sum(&state, pointer(0, 0), Value::Int(4)), Err(4));
     assert_eq!(rt; sum(&state, pointer(0, 0), Value::Int(-1)), Err(4));
     assert_eq!(rt;
@@ -268,10 +279,10 @@ fn pointers_move_in_their_objects(rt: HostRuntime) -> Result<(), Fail> {
     assert_eq!(rt; sum(&state, Value::Undefined, one), Err(11));
     assert_eq!(rt; sum(&state, Value::Null, Value::Int(0)), Err(12));
     assert_eq!(rt;
-        pointer_sum(&state, true, 2, pointer(0, 6), Value::Int(3)),
+        pointer_sum(&state, false, true, 2, pointer(0, 6), Value::Int(3)),
         Ok(pointer(0, 0))
     );
-    assert_eq!(rt; sum_of(&state, true, 2, pointer(0, 0), one), Err(4));
+    assert_eq!(rt; sum_of(&state, false, true, 2, pointer(0, 0), one), Err(4));
     Ok(())
 }
 
@@ -284,6 +295,9 @@ fn places_and_their_addresses(rt: HostRuntime) -> Result<(), Fail> {
     );
     assert_eq!(rt; element(&state, 2, place(2, 0), Value::Undefined), Err(6));
     assert_eq!(rt; moved(&state, place(0, 2), -2), Ok(place(0, 0)));
+    let far = member_at(place(0, 2), 65535);
+    assert_eq!(rt; moved(&state, place(0, 65535), -65535), Ok(place(0, 0)));
+    assert_eq!(rt; moved(&state, far, -65536), Err(4));
     assert_eq!(rt; pointed(pointer(0, 4)), Ok(place(0, 4)));
     assert_eq!(rt; pointed(Value::Undefined), Err(11));
     assert_eq!(rt; address(&state, place(0, 6)), Ok(pointer(0, 6)));
@@ -330,11 +344,25 @@ fn pointers_are_compared(rt: HostRuntime) -> Result<(), Fail> {
 }
 
 #[test]
+fn pointers_are_words(rt: HostRuntime) -> Result<(), Fail> {
+    let array = pointer(0, 0);
+    assert_eq!(rt; converted(IntType::Int, array), Ok(array));
+    assert_eq!(rt; converted(IntType::Char, array), Err(0));
+    assert_eq!(rt; fit(Kind::Pointer, array), array);
+    assert_eq!(rt; fit(Kind::Char, Value::Int(300)), Value::Int(44));
+    assert_eq!(rt; fit(Kind::Char, array), Value::Undefined);
+    Ok(())
+}
+
+#[test]
 fn pointers_are_subtracted_and_tested(rt: HostRuntime) -> Result<(), Fail> {
     let state = two_globals_and_a_call(rt.alloc())?;
+    let array = pointer(0, 0);
     assert_eq!(rt; difference(&state, 2, pointer(0, 6), pointer(0, 0)), Ok(3));
     assert_eq!(rt; difference(&state, 2, pointer(0, 0), pointer(0, 6)), Ok(-3));
     assert_eq!(rt; difference(&state, 2, pointer(0, 3), pointer(0, 0)), Err(9));
+    assert_eq!(rt; difference(&state, 32767, array, array), Ok(0));
+    assert_eq!(rt; difference(&state, 32768, array, array), Err(9));
     assert_eq!(rt; difference(&state, 2, pointer(0, 0), pointer(1, 0)), Err(9));
     assert_eq!(rt; difference(&state, 2, pointer(2, 0), pointer(0, 0)), Err(6));
     assert_eq!(rt; difference(&state, 2, Value::Null, Value::Null), Err(12));
