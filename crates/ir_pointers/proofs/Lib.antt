@@ -1,0 +1,5 @@
+pub mod Growing
+pub mod Values
+pub mod Doing
+pub mod Steps
+pub mod Starting
