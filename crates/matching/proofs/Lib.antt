@@ -7,6 +7,7 @@ pub mod Lying
 pub mod Making
 pub mod Metered
 pub mod Outside
+pub mod Reaching
 pub mod SameBytes
 pub mod Spacing
 pub mod Storing

@@ -27,7 +27,7 @@ use Rattle.matching.specs.Laid.{slot_of, AreMade, CallsAreMade, bytes_by, bytes_
 
 -- ---- the start
 
-first_slots : (ss : List Slot) (is : List Initial) → map slot_of (initial_cells ss is) ≡ ss
+pub first_slots : (ss : List Slot) (is : List Initial) → map slot_of (initial_cells ss is) ≡ ss
 first_slots [] is = refl
 first_slots (s ∷ ss) [] = ap (λ (xs : List Slot). s ∷ xs) (first_slots ss [])
 first_slots (s ∷ ss) (i ∷ is) = ap (λ (xs : List Slot). s ∷ xs) (first_slots ss is)

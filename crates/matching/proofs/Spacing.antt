@@ -32,7 +32,7 @@ use Rattle.matching.specs.Spacing.{LiesWhole, AreSpaced, ObjectsLieWhole}
 
 -- ---- the bytes of an object
 
-same_width : (k : Kind) → (if wide k then 2 else 1) ≡ width k
+pub same_width : (k : Kind) → (if wide k then 2 else 1) ≡ width k
 same_width kind.Char = refl
 same_width kind.Int = refl
 same_width kind.UInt = refl

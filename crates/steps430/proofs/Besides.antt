@@ -1,7 +1,6 @@
 -- Two temporaries come into registers, of which the left one stays beside what is computed of them.
-use Rattle.std.proofs.Common.{◌≡◌, ◌≢◌, ℕ, suc, ◌+◌, ◌*◌, ◌≤◌, refl, sym, ap, ◌∙◌, subst, arith, Bool, false, not, List, ◌∷◌, ◌++◌, length, drop, Option, Some, if◌then◌else◌}
+use Rattle.std.proofs.Common.{◌≡◌, ◌≢◌, ℕ, suc, ◌+◌, ◌*◌, ◌≤◌, refl, sym, ap, ◌∙◌, subst, arith, Bool, false, not, List, ◌∷◌, ◌++◌, length, drop, Option, if◌then◌else◌}
 use Rattle.std.proofs.lemmas.Bool.{ne_eqb}
-use Rattle.std.specs.Prelude.{slice_get}
 use Rattle.base16.specs.Integer.{wrapped}
 use Rattle.base16.specs.declared.integer.IntType.{IntType}
 use Rattle.base16.specs.declared.operator.BinaryOp.{BinaryOp}
@@ -10,7 +9,6 @@ use Rattle.rt430.specs.declared.words.Helper.{Helper}
 use Rattle.ideal430.specs.Ideal.{Ideal, Meter}
 use Rattle.ideal430.specs.Settled.{Bytes}
 use Rattle.c_run.specs.Actions.{kept}
-use Rattle.c_run.specs.Runs.{Run}
 use Rattle.c_values.specs.Pointers.{sum_of}
 use Rattle.c_values.specs.declared.state.State.{State}
 use Rattle.c_values.specs.declared.value.Value.{Value}
@@ -23,7 +21,8 @@ use Rattle.ir.specs.declared.control.Control.TheVariants.{At}
 use Rattle.ir.specs.declared.form.IrFunction.{IrFunction}
 use Rattle.ir.specs.declared.form.Operation.TheVariants as operation
 use Rattle.ir.specs.declared.form.StepKind.TheVariants as step
-use Rattle.ir.specs.Machine.{act, computed, numbered_as}
+use Rattle.ir.specs.Machine.{computed, numbered_as}
+use Rattle.ir.specs.Typed.{IsWide}
 use Rattle.matching.specs.Matches.{Placed, placed}
 use Rattle.select430.specs.Frames.{temporaries_at}
 use Rattle.select430.specs.declared.part.Part.{Part}
@@ -32,19 +31,18 @@ use Rattle.select430.specs.Code.{bring_temporary, keep, moved}
 use Rattle.steps430.specs.Setting.{Setting, function_of, step_at, IsLaid}
 use Rattle.steps430.specs.Holds.{is_missing, HasCode, value_code}
 use Rattle.steps430.specs.Standing.{StandsAt, Stage}
-use Rattle.steps430.specs.Follows.{Follows, DoesStep}
+use Rattle.steps430.specs.Follows.{DoesStep}
 use Rattle.steps430.proofs.Moves.{From, level, with_regs, without_top}
 use Rattle.steps430.proofs.Outcomes.{value_follows, depth_follows, asked_follows}
 use Rattle.steps430.proofs.Operands.{brings_top}
 use Rattle.steps430.proofs.Steps.{begins, falls, keeps_last}
-use Rattle.steps430.proofs.Words.{IsWide}
 use Rattle.steps430.proofs.Sums.{are_numbers}
 use Rattle.steps430.proofs.Routines.{from_helps, helps_with}
 use Rattle.steps430.proofs.Products.{IsHelped, helper_value}
 use Rattle.steps430.proofs.Helped.{operate_is}
 use Rattle.steps430.proofs.Scaled.{scaling}
 use Rattle.steps430.proofs.Sliding.{numbered_code, numbered_missing, slides}
-use Rattle.steps430.proofs.Plus.{AsSaid, one_of, registers, in_pointer, in_number, in_pc, four_left, four_right, code_one, code_other, both_there, sum_is, pointer_to_is}
+use Rattle.steps430.proofs.Plus.{one_of, registers, in_pointer, in_number, in_pc, four_left, four_right, code_one, code_other, both_there, sum_is, pointer_to_is}
 
 module _ (p : Setting) (lay : IsLaid p) (Q : Ideal → Type 0) (s : State) (next : ℕ) (all own : Cells) (segment sp : ℕ)
     (ps r m : ℕ → ℕ) (st : Bytes) (x : Course) (y : Meter) (f q first : ℕ) (ls : List Frame) where
@@ -132,14 +130,8 @@ module _ (p : Setting) (lay : IsLaid p) where
       has)))))))
 
   pub beside_plus_does : (d : ℕ) (minus : Bool) (size : ℕ) (t u : Option IntType) (swapped : Bool)
-      → (f q first : ℕ) (ts : List Temporary) (ls : List Frame) (node : ℕ) (r : Run) (o : Ideal)
-      → slice_get (function_of p f).steps q
-      ≡ Some (record { node = node; kind = step.Beside d (operation.PointerPlus minus size t u swapped) })
-      → StandsAt p (At f q first ts ls) r o
-      → ((a b : Value) (ws : List Temporary) → ts ≡ temporary.Value b ∷ temporary.Value a ∷ ws → AsSaid swapped a b)
-      → Follows p (suc (suc (scaling minus size + 2)))
-      (act p.ir p.readings node (step.Beside d (operation.PointerPlus minus size t u swapped)) f q first ts ls r) o
-  beside_plus_does d minus size t u swapped f q first ts ls node r o e h said =
+      → DoesStep p (suc (suc (scaling minus size + 2))) (step.Beside d (operation.PointerPlus minus size t u swapped))
+  beside_plus_does d minus size t u swapped f q first ts ls node r o e h =
       let limit : ℕ = suc (suc (scaling minus size + 2)) in
       begins p lay limit _ (step.Beside d (operation.PointerPlus minus size t u swapped)) f q first node ts ls r o e h
       (λ all own segment sp ps rr m st y stage low stands code.
@@ -153,8 +145,8 @@ module _ (p : Setting) (lay : IsLaid p) where
       let room : temporaries_at fn + 2 * suc d + 2 ≤ fn.frame = let h2 = stands.room in omega arith in
       let top : ts ≡ temporary.Value b ∷ temporary.Value a ∷ ws =
       is_ts ∙ ap (λ (xs : List Temporary). temporary.Value b ∷ xs) is_us in
-      let to = pointer_to_is (sum_of r.state minus size (numbered_as t a) (numbered_as u b)) c ok in
-      let sum = sum_is swapped r.state minus size t u a b to.location (said a b ws top) to.is in
+      let to = pointer_to_is (sum_of r.state swapped minus size (numbered_as t a) (numbered_as u b)) c ok in
+      let sum = sum_is swapped r.state minus size t u a b to.location to.is in
       let there = both_there swapped r.state minus size (numbered_as t a) (numbered_as u b) to.location sum in
       let Q = StandsAt p (At f (q + 1) first (temporary.Value c ∷ temporary.Value a ∷ ws) ls) r in
       let x : Course = outside r.state.marks (drop r.used p.readings) in

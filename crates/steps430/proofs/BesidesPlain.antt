@@ -24,6 +24,7 @@ use Rattle.ir.specs.declared.form.IrFunction.{IrFunction}
 use Rattle.ir.specs.declared.form.Operation.TheVariants as operation
 use Rattle.ir.specs.declared.form.StepKind.TheVariants as step
 use Rattle.ir.specs.Machine.{computed}
+use Rattle.ir.specs.Typed.{IsWide}
 use Rattle.matching.specs.Matches.{Placed, placed}
 use Rattle.select430.specs.Frames.{temporaries_at}
 use Rattle.select430.specs.declared.part.Part.{Part}
@@ -36,7 +37,6 @@ use Rattle.steps430.specs.Follows.{DoesStep}
 use Rattle.steps430.proofs.Moves.{From, from_do, level}
 use Rattle.steps430.proofs.Outcomes.{value_follows, depth_follows, asked_follows}
 use Rattle.steps430.proofs.Steps.{begins, falls, keeps_last}
-use Rattle.steps430.proofs.Words.{IsWide}
 use Rattle.steps430.proofs.Sums.{IsPlain, are_numbers, result, computes_word, operates, operate_is}
 use Rattle.steps430.proofs.Conditions.{flag}
 use Rattle.steps430.proofs.Orders.{less_taken, reach_taken, same_taken, not_above, answer}

@@ -35,6 +35,7 @@ use Rattle.ir.specs.declared.form.Test.TheVariants as test
 use Rattle.ir.specs.declared.form.StepKind.TheVariants as step
 use Rattle.ir.specs.Machine.{act, computed, on_test, branch}
 use Rattle.ir.specs.Table.{taken}
+use Rattle.ir.specs.Typed.{IsWide}
 use Rattle.matching.specs.Laid.{IsMade}
 use Rattle.matching.specs.Matches.{Placed, placed}
 use Rattle.select430.specs.declared.part.Part.{Part}
@@ -42,11 +43,12 @@ use Rattle.select430.specs.declared.part.Part.TheVariants.{GoUnless}
 use Rattle.select430.specs.Code.{bring, opposite, against_zero, operate, perform, left_register, right_register, test_flags, test_where}
 use Rattle.steps430.specs.Setting.{Setting, function_of, step_at, IsLaid}
 use Rattle.steps430.specs.Holds.{HasCode, value_code}
+use Rattle.steps430.specs.Lying.{StayInside, ObjectsLie}
 use Rattle.steps430.specs.Standing.{StandsAt}
 use Rattle.steps430.specs.Follows.{DoesStep}
 use Rattle.steps430.proofs.Branches.{goes_unless}
 use Rattle.steps430.proofs.Computing.{Anything, Computes, helped_computes, difference_computes}
-use Rattle.steps430.proofs.Differences.{counting, AreClose}
+use Rattle.steps430.proofs.Differences.{counting}
 use Rattle.steps430.proofs.Finding.{DoesWhere, FindsTwo, where_always}
 use Rattle.steps430.proofs.Minus.{count_is}
 use Rattle.steps430.proofs.Moves.{From, from_do, level, with_regs, with_level}
@@ -56,7 +58,6 @@ use Rattle.steps430.proofs.Products.{IsHelped, Times, Signed_quotient, Quotient,
 use Rattle.steps430.proofs.Steps.{begins, falls, stands_next}
 use Rattle.steps430.proofs.Sums.{are_numbers}
 use Rattle.steps430.proofs.Tests.{truth_word, target_is, stays}
-use Rattle.steps430.proofs.Words.{IsWide}
 
 -- What an operation computes is compared with 0, and its word tells whether it is true.
 pub record TestsZero (p : Setting) (op : Operation) (IsFine : State → Value → Value → Type 0) : Type 0 where
@@ -183,12 +184,12 @@ module _ (p : Setting) (lay : IsLaid p) where
       (λ z j. j) stage5) low
       (at_target ∙ target_is p f to q yes (is_taken stay (r3 2)) when skips))))))))))))
 
-  pub branch_difference_does : (d size : ℕ) (left right : Operand) (of : IntType) (when : Bool) (to : ℕ)
+  pub branch_difference_does : ObjectsLie p → (d size : ℕ) (left right : Operand) (of : IntType) (when : Bool) (to : ℕ)
       → DoesWhere p (counting size + 1 + 5) (step.Branch d (test.Computed (operation.Difference size) left right) of when to)
-      (FindsTwo left right (λ s. AreClose (nat_eq size 1) size))
-  branch_difference_does d size left right of when to =
-      branch_if (counting size + 1) d (operation.Difference size) left right of when to (λ s. AreClose (nat_eq size 1) size)
-      (difference_computes p lay size)
+      (FindsTwo left right StayInside)
+  branch_difference_does lie d size left right of when to =
+      branch_if (counting size + 1) d (operation.Difference size) left right of when to StayInside
+      (difference_computes p lay lie size)
       (record {
         flags = refl;
         condition = refl;

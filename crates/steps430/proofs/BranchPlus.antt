@@ -1,10 +1,10 @@
 -- Jumps that are made where the sum of a pointer and a number is the null pointer, or is not: it never is.
 use Rattle.std.proofs.Common.{◌≡◌, ℕ, ◌+◌, ◌≤◌, refl, sym, ◌∙◌, subst, arith, Bool, true, false, Option, Some, None, Result, Ok, Err, if◌then◌else◌}
 use Rattle.std.proofs.lemmas.Bool.Decides.{nat_tests}
-use Rattle.std.specs.Prelude.{ℤ, pos, negsuc, ◌+ℤ◌, nat_le}
+use Rattle.std.specs.Prelude.{ℤ, pos, negsuc, nat_le}
 use Rattle.base16.specs.declared.integer.IntType.{IntType}
 use Rattle.c_values.specs.Objects.{object_of}
-use Rattle.c_values.specs.Pointers.{at as place_at, moved, within, end_of, scaled as scaled_number, sum_of, pointer_at}
+use Rattle.c_values.specs.Pointers.{at as place_at, within, end_of, further, moved, scaled as scaled_number, sum_of, pointer_at}
 use Rattle.c_values.specs.declared.state.Object.{Object}
 use Rattle.c_values.specs.declared.state.State.{State}
 use Rattle.c_values.specs.declared.value.Location.{Location}
@@ -16,10 +16,11 @@ use Rattle.ir.specs.declared.form.StepKind.TheVariants as step
 use Rattle.ir.specs.Machine.{numbered_as}
 use Rattle.steps430.specs.Setting.{Setting, IsLaid}
 use Rattle.steps430.specs.Lying.{StaysInside, ObjectsLie}
+use Rattle.steps430.specs.Follows.{DoesStep}
 use Rattle.steps430.proofs.BranchAny.{TestsZero, branch_if}
-use Rattle.steps430.proofs.Computing.{plus_computes}
-use Rattle.steps430.proofs.Finding.{DoesWhere, FindsTwo}
-use Rattle.steps430.proofs.Plus.{AsSaid, sum_is, pointer_to_is}
+use Rattle.steps430.proofs.Computing.{Anything, plus_computes}
+use Rattle.steps430.proofs.Finding.{FindsTwo, where_always}
+use Rattle.steps430.proofs.Plus.{sum_is, pointer_to_is}
 use Rattle.steps430.proofs.Scaled.{scaling}
 use Rattle.steps430.proofs.Truths.{truth_says}
 
@@ -64,22 +65,18 @@ within_inside s n (negsuc k) None l is e = no_place 6 l e
 moved_inside : (s : State) (n offset : ℕ) (by : ℤ) (l : Location) → moved s (place_at n offset) by ≡ Ok l
     → StaysInside s (pointer_at l.offset l.object)
 unfolding moved
-moved_inside s n offset by l e = within_inside s n (pos offset +ℤ by) (object_of s n) l refl e
+moved_inside s n offset by l e = within_inside s n (further offset by) (object_of s n) l refl e
 
 -- ---- the step
 
--- the one that is said to be the number is no pointer
-abbrev pub Said : Bool → State → Value → Value → Type 0
-Said swapped s = AsSaid swapped
-
 plus_tests : (p : Setting) → ObjectsLie p → (minus : Bool) (size : ℕ) (t u : Option IntType) (swapped : Bool)
-    → TestsZero p (operation.PointerPlus minus size t u swapped) (Said swapped)
+    → TestsZero p (operation.PointerPlus minus size t u swapped) Anything
 plus_tests p lie minus size t u swapped = record {
   flags = refl;
   condition = refl;
-  tells = λ s next of a b c yes w made said e sure has.
-      let to = pointer_to_is (sum_of s minus size (numbered_as t a) (numbered_as u b)) c e in
-      let sum = sum_is swapped s minus size t u a b to.location said to.is in
+  tells = λ s next of a b c yes w made any e sure has.
+      let to = pointer_to_is (sum_of s swapped minus size (numbered_as t a) (numbered_as u b)) c e in
+      let sum = sum_is swapped s minus size t u a b to.location to.is in
       let inside : StaysInside s c =
       subst (λ (v : Value). StaysInside s v) to.pointer
       (moved_inside s sum.object sum.offset (scaled_number minus sum.count size) to.location sum.moves) in
@@ -89,9 +86,11 @@ plus_tests p lie minus size t u swapped = record {
 module _ (p : Setting) (lay : IsLaid p) (lie : ObjectsLie p) where
   pub branch_plus_does : (d : ℕ) (minus : Bool) (size : ℕ) (t u : Option IntType) (swapped : Bool) (left right : Operand)
       (of : IntType) (when : Bool) (to : ℕ)
-      → DoesWhere p (scaling minus size + 1 + 5)
+      → DoesStep p (scaling minus size + 1 + 5)
       (step.Branch d (test.Computed (operation.PointerPlus minus size t u swapped) left right) of when to)
-      (FindsTwo left right (Said swapped))
   branch_plus_does d minus size t u swapped left right of when to =
-      branch_if p lay (scaling minus size + 1) d (operation.PointerPlus minus size t u swapped) left right of when to
-      (Said swapped) (plus_computes p lay minus size t u swapped) (plus_tests p lie minus size t u swapped)
+      where_always p (scaling minus size + 1 + 5)
+      (step.Branch d (test.Computed (operation.PointerPlus minus size t u swapped) left right) of when to)
+      (FindsTwo left right Anything) (λ s first ts a b us ws g k. tt)
+      (branch_if p lay (scaling minus size + 1) d (operation.PointerPlus minus size t u swapped) left right of when to
+      Anything (plus_computes p lay minus size t u swapped) (plus_tests p lie minus size t u swapped))

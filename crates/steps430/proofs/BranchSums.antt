@@ -8,6 +8,7 @@ use Rattle.ir.specs.declared.form.Operand.{Operand}
 use Rattle.ir.specs.declared.form.Operation.TheVariants as operation
 use Rattle.ir.specs.declared.form.Test.TheVariants as test
 use Rattle.ir.specs.declared.form.StepKind.TheVariants as step
+use Rattle.ir.specs.Typed.{IsWide}
 use Rattle.select430.specs.Code.{against_zero, operate, test_flags, test_where}
 use Rattle.steps430.specs.Setting.{Setting, IsLaid}
 use Rattle.steps430.specs.Follows.{DoesStep}
@@ -15,7 +16,6 @@ use Rattle.steps430.proofs.BranchAny.{integers_test, branch_if}
 use Rattle.steps430.proofs.Computing.{Anything, plain_computes}
 use Rattle.steps430.proofs.Finding.{FindsTwo, where_always}
 use Rattle.steps430.proofs.Sums.{IsPlain, Plus, Minus, Both, Either, Any}
-use Rattle.steps430.proofs.Words.{IsWide}
 
 flags_is : (o : BinaryOp) (m : TwoOp) (t own : IntType) → IsPlain o m
     → test_flags (operation.Integers o t own) ≡ operate o t ++ against_zero ∷ []

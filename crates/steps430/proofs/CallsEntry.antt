@@ -1,5 +1,5 @@
 -- The step at the entry of a function does its step, where the arguments are copied behind it.
-use Rattle.std.proofs.Common.{◌≡◌, ℕ, zero, suc, ◌+◌, ◌-◌, ◌%◌, ◌<◌, ◌≤◌, refl, sym, ap, ◌∙◌, subst, arith, Bool, true, false, ◌⊎◌, inl, inr, List, [], ◌∷◌, length, take, reverse, drop, Option, Some, None}
+use Rattle.std.proofs.Common.{◌≡◌, ℕ, zero, suc, ◌+◌, ◌-◌, ◌%◌, ◌<◌, ◌≤◌, refl, sym, ap, ◌∙◌, subst, arith, Bool, true, false, ◌⊎◌, inl, inr, List, [], ◌∷◌, length, take, reverse, drop, Option, Some, None, Ok}
 use Rattle.std.proofs.lemmas.List.{reverse-append}
 use Rattle.std.proofs.lemmas.Bool.Decides.{nat_tests}
 use Rattle.std.specs.Prelude.{nat_lt, nat_le, pos, slice_get}
@@ -17,6 +17,7 @@ use Rattle.ideal430.specs.Settled.{Bytes}
 use Rattle.ideal430.specs.declared.state.IdealEnd.TheVariants.{Running}
 use Rattle.c_run.specs.Actions.{kept, top_of, entered, enter, with_call, with_params}
 use Rattle.c_run.specs.Runs.{Run, ◌>>=◌, ◌>>◌, and_then, pure, changed, mark, mark_by}
+use Rattle.c_values.specs.Values.{all_present}
 use Rattle.c_values.specs.declared.state.Call.{Call as CCall}
 use Rattle.c_values.specs.declared.value.Value.{Value}
 use Rattle.cells430.specs.Cells.{Word, Cells}
@@ -27,6 +28,7 @@ use Rattle.ir.specs.declared.control.Frame.{Frame}
 use Rattle.ir.specs.declared.form.IrFunction.{IrFunction}
 use Rattle.ir.specs.declared.form.StepKind.TheVariants as step
 use Rattle.ir.specs.Machine.{objects_of, param_kinds, act_enter}
+use Rattle.ir.specs.Typed.{HasParameters}
 use Rattle.matching.specs.Matches.{Placed as Alive, placed}
 use Rattle.select430.specs.Code.{constant, service, copies}
 use Rattle.select430.specs.Frames.{word, temporaries_at, temporary_at}
@@ -34,7 +36,7 @@ use Rattle.steps430.specs.Setting.{Setting, FrameFits, function_of, step_at, ste
 use Rattle.steps430.specs.Holds.{CallHolds, Holds, with_args, calling}
 use Rattle.steps430.specs.Standing.{ReturnsHere, ReturnsBelow, Stacked, return_to, arguments_at, Stage, IsAt, Entering, StandsAt}
 use Rattle.steps430.specs.Follows.{MakesMark, HasEnded, Follows}
-use Rattle.steps430.specs.Calls.{FramesLaid, AreKnown, AllFit, new_call, DoesEnter}
+use Rattle.steps430.specs.Calls.{FramesLaid, AreKnown, new_call, DoesEnter}
 use Rattle.steps430.proofs.FramesGrown.{after_enter, next_after}
 use Rattle.steps430.proofs.FramesLeft.{matches_by}
 use Rattle.steps430.proofs.Moves.{From, from_do, level}
@@ -61,7 +63,7 @@ CopiesArguments p f n limit = (args : List Value) (below : List Frame) (first : 
     (ps rr m : ℕ → ℕ) (st : Bytes) (y : Meter)
     → Stage p r.state r.next (level f 1 first [] ∷ below) all own segment sp sp ps rr m st → segment_start segment + 4 ≤ sp
     → HaveScalars (objects_of (function_of p f)) (reverse r.state.calls)
-    → length args ≡ (function_of p f).params → AllFit (param_kinds (function_of p f)) args
+    → length args ≡ (function_of p f).params → all_present args ≡ Ok tt
     → HasArguments p all own (placed p.core (kept r.state)) args below (rr 14)
     → From p f (rr 0) (copies p.ir (function_of p f) 0 (take n (function_of p f).locals)) (step_at p f 1)
     → Leads limit (at segment ps rr m st (outside r.state.marks (drop r.used p.readings)) y)
@@ -115,7 +117,7 @@ module _ (p : Setting) (lay : IsLaid p) (laid : FramesLaid p) (n k f d : ℕ) (a
     (stage : Stage p r.state r.next (calling args below) all own g (sp + 2) sp ps rr m st)
     (back : all sp ≡ Some (Word (Some (return_to p below)))) (free : own sp ≡ None) (pc : rr 0 ≡ step_at p f 0)
     (argument : arguments_at p (sp + 2) d below (rr 14)) (none_given : below ≡ [] → args ≡ [])
-    (count : length args ≡ (function_of p f).params) (fit : AllFit (param_kinds (function_of p f)) args)
+    (count : length args ≡ (function_of p f).params) (given : all_present args ≡ Ok tt)
     (copied : CopiesArguments p f n k) where
   abbrev fn : IrFunction
   fn = function_of p f
@@ -258,7 +260,7 @@ module _ (p : Setting) (lay : IsLaid p) (laid : FramesLaid p) (n k f d : ℕ) (a
             (StandsAt p (At f 1 r.next [] below) (ended i.frame left)) i.step
             (copied args below r.next (run i.frame left) i.all i.own i.segment i.frame i.pointers i.registers i.m i.settled
             i.meter i.stage i.low
-            (subst (HaveScalars (objects_of fn)) (sym (turned i.frame)) (fresh_have r.next (objects_of fn))) count fit
+            (subst (HaveScalars (objects_of fn)) (sym (turned i.frame)) (fresh_have r.next (objects_of fn))) count given
             (arguments_held p all own i.all i.own (placed p.core (kept (after_enter p f i.frame r.next r.state))) g i.segment
             (sp + 2) i.frame d args (level f 1 r.next []) below (new_call fn f i.frame r.next)
             (reverse r.state.calls) (i.registers 14) stage3.stacked
@@ -295,9 +297,8 @@ module _ (p : Setting) (lay : IsLaid p) (laid : FramesLaid p) (n k f d : ℕ) (a
       by (Some frame) place = left_of frame r.left place
 
 pub enter_does : (p : Setting) (lay : IsLaid p) (laid : FramesLaid p) (n k : ℕ)
-    → ((f node : ℕ) → slice_get (function_of p f).steps 0 ≡ Some (record { node = node; kind = step.Enter n })
-    → CopiesArguments p f n k) → DoesEnter p (suc (suc k)) (step.Enter n)
-enter_does p lay laid n k copied f d args below node r t e known fit h =
+    → ((f : ℕ) → HasParameters (function_of p f) n → CopiesArguments p f n k) → DoesEnter p (suc (suc k)) (step.Enter n)
+enter_does p lay laid n k copied f d args below node r t typed e known h =
     subst (Follows p (suc (suc k)) (act_enter p.ir p.readings (step.Enter n) f (function_of p f) args below r)) (sym h.is) (from
     h.base h.stage h.point)
   where
@@ -309,4 +310,4 @@ enter_does p lay laid n k copied f d args below node r t e known fit h =
         enters_follow p lay laid n k f d args below node r e known h.all h.own h.segment h.sp h.pointers h.r h.m h.settled h.meter
         (subst (λ (z : ℕ). Stage p r.state r.next (calling args below) h.all h.own h.segment z h.sp h.pointers h.r h.m h.settled)
         b stage)
-        back free pc (subst (λ (z : ℕ). arguments_at p z d below (h.r 14)) b argument) none_given count fit (copied f node e)
+        back free pc (subst (λ (z : ℕ). arguments_at p z d below (h.r 14)) b argument) none_given count present (copied f typed)

@@ -16,7 +16,7 @@ use Rattle.ideal430.specs.Settled.{Bytes}
 use Rattle.c_run.specs.Actions.{kept}
 use Rattle.c_values.specs.Objects.{put_cell, put_object, with_scalar, accessed}
 use Rattle.c_values.specs.Pointers.{at as place_at}
-use Rattle.c_values.specs.Values.{fitted}
+use Rattle.c_values.specs.Values.{fit}
 use Rattle.c_values.specs.declared.state.Call.{Call}
 use Rattle.c_values.specs.declared.state.Object.{Object}
 use Rattle.c_values.specs.declared.state.State.{State}
@@ -33,7 +33,7 @@ use Rattle.ir.specs.declared.form.IrLocal.{IrLocal}
 use Rattle.ir.specs.Machine.{objects_of}
 use Rattle.matching.specs.Covering.{cell_by, cell_of}
 use Rattle.matching.specs.Laid.{IsMade}
-use Rattle.matching.specs.Matches.{Placed, placed}
+use Rattle.matching.specs.Matches.{Placed, placed, encoded}
 use Rattle.select430.specs.Code.{is_char}
 use Rattle.select430.specs.Frames.{word, temporaries_at, offset_or}
 use Rattle.steps430.specs.Setting.{Setting, function_of, IsLaid}
@@ -46,8 +46,8 @@ use Rattle.steps430.proofs.FramesGrown.{args_held}
 use Rattle.steps430.proofs.Keeping.{call_off}
 use Rattle.steps430.proofs.Moves.{level, top_of}
 use Rattle.steps430.proofs.Reading.{local_stands}
-use Rattle.steps430.proofs.Stored.{changed, placed_changed, held_same, accessed_cell, stage_stored}
-use Rattle.steps430.proofs.Stores.{low, fitted_there, stored_code, local_low, in_segment}
+use Rattle.steps430.proofs.Stored.{changed, placed_changed, held_same, accessed_cell, stage_set}
+use Rattle.steps430.proofs.Stores.{low, fit_whole, fit_code, local_low, in_segment}
 use Rattle.steps430.proofs.Values.{narrow_kind}
 
 -- ---- the word of an argument
@@ -146,8 +146,10 @@ module _ (p : Setting) (lay : IsLaid p) (Q : Ideal → Type 0) (f i first : ℕ)
         param_there p.core next s first i k c cs e made (lay.numbered next (kept s) made).1 stack.0.numbers
         (ap (λ (z : List (List Slot)). slice_get z i) have ∙ slots_there)
 
+    -- the argument is there, and the parameter gets of it what fits
     pub copies_one : (j : ℕ) (v w : Value) (args : List Value) (below : List Frame) (s : State) (next : ℕ) (all own : Cells)
-        (segment sp : ℕ) (ps r m : ℕ → ℕ) (st : Bytes) (x : Course) (y : Meter) → slice_get args i ≡ Some v → fitted k v ≡ Ok w
+        (segment sp : ℕ) (ps r m : ℕ → ℕ) (st : Bytes) (x : Course) (y : Meter) → slice_get args i ≡ Some v → is_missing v ≡ false
+        → fit k v ≡ w
         → HaveScalars (objects_of (function_of p f)) (reverse s.calls)
         → Stage p s next (level f 1 first [] ∷ below) all own segment sp sp ps r m st
         → HasArguments p all own (placed p.core (kept s)) args below (r 14)
@@ -160,9 +162,9 @@ module _ (p : Setting) (lay : IsLaid p) (Q : Ideal → Type 0) (f i first : ℕ)
         → Leads j (at segment ps (set_reg r 0 (r 0 + 6)) m2 st2 x y2) Q)
         → Leads (suc j) (at segment ps r m st x y) Q
     unfolding with_scalar
-    copies_one j v w args [] s next all own segment sp ps r m st x y is_arg fit have h given here go =
+    copies_one j v w args [] s next all own segment sp ps r m st x y is_arg there_v fits have h given here go =
         never_value i v (ap (λ (z : List Value). slice_get z i) (sym given) ∙ is_arg)
-    copies_one j v w args (b ∷ ls) s next all own segment sp ps r m st x y is_arg fit have h given here go =
+    copies_one j v w args (b ∷ ls) s next all own segment sp ps r m st x y is_arg there_v fits have h given here go =
         let alive : List Placed = placed p.core (kept s) in
         let frames : List Frame = level f 1 first [] ∷ b ∷ ls in
         let fb : IrFunction = function_of p b.function in
@@ -187,7 +189,7 @@ module _ (p : Setting) (lay : IsLaid p) (Q : Ideal → Type 0) (f i first : ℕ)
         let to : sp + word l.offset ≡ a = omega arith in
         let from : ℕ = given.0 + temporaries_at fb + 2 * (length b.temporaries + i) in
         let wd = arg_word all alive (given.0 + temporaries_at fb) args b.temporaries i v given.3.held is_arg
-        (fitted_there k v w fit) in
+        there_v in
         let small = live_below segment sp ps from (h.shape.live from (Word (Some wd.0)) wd.1) in
         let at_14 = given.1 in
         let source : r 14 + word (2 * i) ≡ from = omega arith in
@@ -196,8 +198,9 @@ module _ (p : Setting) (lay : IsLaid p) (Q : Ideal → Type 0) (f i first : ℕ)
         there.0 h here source (omega arith) to (omega arith) high wd.1 cell (λ m2 st2 y2 facts wide.
         go (set_cell all a (cell_of k (Some new))) (set_cell own a (cell_of k (Some new))) m2 st2 y2
         (stored_have (objects_of fn) (first + i) 0 w s have)
-        (stage_stored p lay s next frames all own segment sp sp ps r m (set_reg r 0 (r 0 + 6)) m2 st st2
-        (first + i) 0 k old.0 v w new h old.1 fit (stored_code alive k v w wd.0 fit wd.2).0 h.stack wide
+        (stage_set p lay s next frames all own segment sp sp ps r m (set_reg r 0 (r 0 + 6)) m2 st st2
+        (first + i) 0 k old.0 w new h old.1 (λ z is. fit_whole k v z (fits ∙ is))
+        (subst (λ (z : Value). HasCode (encoded alive k z) new) fits (fit_code alive k v wd.0 wd.2)) h.stack wide
         (subst (λ (z : Cell). Facts p.code p.low p.high (set_cell all a z) m2 st2) (sym (narrow_kind k (Some new))) facts))
         (subst (λ (qs : List Placed). HasArguments p (set_cell all a (cell_of k (Some new)))
         (set_cell own a (cell_of k (Some new))) qs args (b ∷ ls) (r 14))

@@ -1,5 +1,5 @@
 -- All arguments are copied, and so a function is entered.
-use Rattle.std.proofs.Common.{◌≡◌, ℕ, zero, suc, ◌+◌, ◌*◌, ◌≤◌, refl, sym, ap, ◌∙◌, subst, arith, List, [], ◌∷◌, length, map, take, reverse, drop, Some, Result, Ok}
+use Rattle.std.proofs.Common.{◌≡◌, ℕ, zero, suc, ◌+◌, ◌*◌, ◌≤◌, refl, sym, ap, ◌∙◌, subst, arith, false, List, [], ◌∷◌, length, map, take, reverse, drop, Some, Result, Ok, Err}
 use Rattle.std.proofs.lemmas.List.{length-take-le}
 use Rattle.std.specs.Prelude.{slice_get}
 use Rattle.base16.specs.Board.{segment_start}
@@ -14,9 +14,10 @@ use Rattle.ideal430.specs.Settled.{Bytes}
 use Rattle.c_run.specs.Actions.{kept, with_params}
 use Rattle.c_run.specs.Runs.{Run}
 use Rattle.c_values.specs.Objects.{with_scalar}
-use Rattle.c_values.specs.Values.{fitted, fit_or, fit}
+use Rattle.c_values.specs.Values.{fit, all_present}
 use Rattle.c_values.specs.declared.state.State.{State}
 use Rattle.c_values.specs.declared.value.Value.{Value}
+use Rattle.c_values.specs.declared.value.Value.TheVariants.{Int, Pointer, Null, Undefined}
 use Rattle.cells430.specs.Cells.{Cells}
 use Rattle.cells430.specs.Stretch.{Course, outside, at, Leads}
 use Rattle.core_tree.specs.LawfulCore.{Every}
@@ -25,12 +26,14 @@ use Rattle.ir.specs.declared.control.Frame.{Frame}
 use Rattle.ir.specs.declared.form.IrLocal.{IrLocal}
 use Rattle.ir.specs.declared.form.StepKind.TheVariants as step
 use Rattle.ir.specs.Machine.{objects_of, first_kind, param_kinds}
+use Rattle.ir.specs.Typed.{IsSingle, HasParameters}
 use Rattle.matching.specs.Matches.{placed}
 use Rattle.select430.specs.Code.{is_char, copies}
 use Rattle.select430.specs.Frames.{word}
 use Rattle.steps430.specs.Setting.{Setting, function_of, step_at, IsLaid}
+use Rattle.steps430.specs.Holds.{is_missing}
 use Rattle.steps430.specs.Standing.{Stage, StandsAt}
-use Rattle.steps430.specs.Calls.{IsSingle, HasParameters, HaveParameters, AllFit, FramesLaid, DoesEnter}
+use Rattle.steps430.specs.Calls.{FramesLaid, DoesEnter}
 use Rattle.steps430.proofs.CallsEntry.{HasArguments, CopiesArguments, enter_does}
 use Rattle.steps430.proofs.CallsObjects.{HaveScalars}
 use Rattle.steps430.proofs.CallsOne.{copies_one}
@@ -54,19 +57,29 @@ IsRest {A} all i rest = (j : ℕ) (x : A) → slice_get rest j ≡ Some x → sl
 abbrev kinds : List IrLocal → List Kind
 kinds ls = map (λ (l : IrLocal). first_kind l.scalars) ls
 
-abbrev fine : Value → Result Value ℕ
-fine v = Ok v
+abbrev fine : Result (Unit {0}) ℕ
+fine = Ok tt
 
--- what fits is what the parameter holds
-fits_as : (k : Kind) (v w : Value) → fitted k v ≡ Ok w → fitted k v ≡ Ok (fit k v)
-fits_as k v w e = e ∙ ap fine (sym (ap (fit_or v) e))
+abbrev wrong : Result (Unit {0}) ℕ
+wrong = Err 11
+
+-- where all values are there, the first is, and so are the others
+presents : (v : Value) (vs : List Value) → all_present (v ∷ vs) ≡ Ok tt → (is_missing v ≡ false) × (all_present vs ≡ Ok tt)
+presents (Int z) vs e = (refl, e)
+presents (Pointer n o) vs e = (refl, e)
+presents Null vs e = (refl, e)
+presents Undefined vs e = absurd (differ e)
+  where
+    differ : wrong ≡ fine → ⊥
+    differ k = cc
 
 module _ (p : Setting) (lay : IsLaid p) (f : ℕ) (args : List Value) (below : List Frame) (first : ℕ) (r : Run)
     (segment sp : ℕ) (ps : ℕ → ℕ) (low : segment_start segment + 4 ≤ sp) (x : Course) where
   -- from a parameter on
   copies_from : (ls : List IrLocal) (vs : List Value) (i : ℕ) (s : State) (all own : Cells) (rr m : ℕ
       → ℕ) (st : Bytes) (y : Meter)
-      → length vs ≡ length ls → IsRest (function_of p f).locals i ls → IsRest args i vs → Every IsSingle ls → AllFit (kinds ls) vs
+      → length vs ≡ length ls → IsRest (function_of p f).locals i ls → IsRest args i vs → Every IsSingle ls
+      → all_present vs ≡ Ok tt
       → HaveScalars (objects_of (function_of p f)) (reverse s.calls)
       → Stage p s r.next (level f 1 first [] ∷ below) all own segment sp sp ps rr m st
       → HasArguments p all own (placed p.core (kept s)) args below (rr 14)
@@ -74,17 +87,18 @@ module _ (p : Setting) (lay : IsLaid p) (f : ℕ) (args : List Value) (below : L
       → x ≡ outside (with_params (first + i) (kinds ls) vs s).marks (drop r.used p.readings)
       → Leads (length ls) (at segment ps rr m st x y)
       (StandsAt p (At f 1 first [] below) (record r { state = with_params (first + i) (kinds ls) vs s }))
-  copies_from [] vs i s all own rr m st y same locals rest single fits have stage held code is =
+  copies_from [] vs i s all own rr m st y same locals rest single there have stage held code is =
       subst (λ (c : Course). Leads 0 (at segment ps rr m st c y) (StandsAt p (At f 1 first [] below) (record r { state = s })))
       (sym is)
       (stands_now p lay 0 f 1 1 first [] [] below (record r { state = s }) all own segment sp ps rr m st y stage low code)
-  copies_from (l ∷ ls) [] i s all own rr m st y same locals rest single fits have stage held code is = absurd (differ same)
+  copies_from (l ∷ ls) [] i s all own rr m st y same locals rest single there have stage held code is = absurd (differ same)
     where
       differ : 0 ≡ suc (length ls) → ⊥
       differ e = cc
-  copies_from (l ∷ ls) (v ∷ vs) i s all own rr m st y same locals rest single fits have stage held code is =
+  copies_from (l ∷ ls) (v ∷ vs) i s all own rr m st y same locals rest single there have stage held code is =
       let k : Kind = first_kind l.scalars in
       let one = single.0 in
+      let are = presents v vs there in
       let kind_is : k ≡ one.0 = ap first_kind one.1 in
       let s2 : State = with_scalar (first + i) 0 (fit k v) s in
       let here_is : i + 0 ≡ i = omega arith in
@@ -99,7 +113,7 @@ module _ (p : Setting) (lay : IsLaid p) (f : ℕ) (args : List Value) (below : L
       (subst (λ (j : ℕ). slice_get (function_of p f).locals j ≡ Some l) here_is (locals 0 l refl))
       (one.1 ∙ ap (λ (z : Kind). record { offset = 0; kind = z } ∷ []) (sym kind_is))
       (length ls) v (fit k v) args below s r.next all own segment sp ps rr m st x y
-      (subst (λ (j : ℕ). slice_get args j ≡ Some v) here_is (rest 0 v refl)) (fits_as k v fits.0.0 fits.0.1) have stage held c.0
+      (subst (λ (j : ℕ). slice_get args j ≡ Some v) here_is (rest 0 v refl)) are.0 refl have stage held c.0
       (λ all2 own2 m2 st2 y2 have2 stage2 held2.
       subst (λ (z : State). Leads (length ls) (at segment ps (set_reg rr 0 (rr 0 + 6)) m2 st2 x y2)
       (StandsAt p (At f 1 first [] below) (record r { state = z }))) moved
@@ -108,7 +122,7 @@ module _ (p : Setting) (lay : IsLaid p) (f : ℕ) (args : List Value) (below : L
       subst (λ (q : ℕ). slice_get (function_of p f).locals q ≡ Some z) more (locals (suc j) z e))
       (λ j z e. let more : i + suc j ≡ suc i + j = omega arith in
       subst (λ (q : ℕ). slice_get args q ≡ Some z) more (rest (suc j) z e))
-      single.1 fits.1 have2 stage2 held2 c.1
+      single.1 are.1 have2 stage2 held2 c.1
       (is ∙ ap (λ (z : State). outside z.marks (drop r.used p.readings)) (sym moved))))
 
 -- ---- all of them
@@ -126,7 +140,7 @@ take_gets (suc n) (y ∷ xs) zero x e = e
 take_gets (suc n) (y ∷ xs) (suc j) x e = take_gets n xs j x e
 
 copies_all : (p : Setting) → IsLaid p → (f n : ℕ) → HasParameters (function_of p f) n → CopiesArguments p f n n
-copies_all p lay f n params args below first r all own segment sp ps rr m st y stage low have count fits there code =
+copies_all p lay f n params args below first r all own segment sp ps rr m st y stage low have count present there code =
     let ls : List IrLocal = take n (function_of p f).locals in
     let size : length ls ≡ n = length-take-le n (function_of p f).locals params.among in
     let start : first + 0 ≡ first = omega arith in
@@ -145,11 +159,9 @@ copies_all p lay f n params args below first r all own segment sp ps rr m st y s
     (λ j x e. let z : j ≡ 0 + j = omega arith in
     subst (λ (q : ℕ). slice_get (function_of p f).locals q ≡ Some x) z (take_gets n (function_of p f).locals j x e))
     (λ j x e. let z : j ≡ 0 + j = omega arith in subst (λ (q : ℕ). slice_get args q ≡ Some x) z e)
-    params.single (subst (λ (ks : List Kind). AllFit ks args) (sym named) fits) have stage there code
+    params.single present have stage there code
     (ap (λ (k : ℕ). outside k (drop r.used p.readings)) (sym (params_marks (first + 0) (kinds ls) args r.state)))))
 
 -- a function is entered, each parameter of which is one scalar
-pub enter_params_does : (p : Setting) → IsLaid p → FramesLaid p → HaveParameters p → (n : ℕ)
-    → DoesEnter p (suc (suc n)) (step.Enter n)
-enter_params_does p lay laid params n =
-    enter_does p lay laid n n (λ f node e. copies_all p lay f n (params f n node e))
+pub enter_params_does : (p : Setting) → IsLaid p → FramesLaid p → (n : ℕ) → DoesEnter p (suc (suc n)) (step.Enter n)
+enter_params_does p lay laid n = enter_does p lay laid n n (λ f params. copies_all p lay f n params)

@@ -32,7 +32,7 @@ use Rattle.select430.specs.declared.part.Part.TheVariants.{Do}
 use Rattle.select430.specs.Code.{flags, holds_where, truth_where}
 use Rattle.steps430.specs.Setting.{Setting, IsLaid}
 use Rattle.steps430.specs.Holds.{is_missing, HasCode, value_code}
-use Rattle.steps430.specs.Lying.{StaysInside, ObjectsLie}
+use Rattle.steps430.specs.Lying.{StaysInside, StayInside, ObjectsLie}
 use Rattle.steps430.proofs.Reading.{same_address}
 use Rattle.steps430.proofs.Conditions.{flag}
 use Rattle.steps430.proofs.Orders.{flag_word, below_carry}
@@ -339,10 +339,6 @@ module _ (p : Setting) (lie : ObjectsLie p) (s : State) (next : ℕ) (made : IsM
             (second_false (gone s a) (gone s b) t.0) inside.0 inside.1 has_a has_b t.1)
             ∙ flag_word (holds o v w) ∙ ap flag (sym (flags_tell o v w status small_v small_w));
       }
-
--- both pointers go no further than to the ends of their objects
-abbrev pub StayInside : State → Value → Value → Type 0
-StayInside s a b = StaysInside s a × StaysInside s b
 
 pub pointers_told : (p : Setting) (lie : ObjectsLie p) (o : BinaryOp)
     → IsTold p (operation.ComparePointers o) (is_back o) (holds_where o false) StayInside

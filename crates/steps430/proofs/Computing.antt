@@ -1,6 +1,5 @@
 -- Operations: what their code computes of two values, in so many instructions, wherever it stands.
 use Rattle.std.proofs.Common.{◌≡◌, ◌≢◌, ℕ, suc, ◌+◌, ◌<◌, ◌≤◌, refl, sym, ap, ◌∙◌, subst, arith, Bool, true, false, List, [], ◌∷◌, ◌++◌, Option, Ok, if◌then◌else◌}
-use Rattle.std.specs.Prelude.{nat_eq}
 use Rattle.base16.specs.Board.{segment_start}
 use Rattle.base16.specs.Integer.{wrapped}
 use Rattle.base16.specs.declared.integer.IntType.{IntType}
@@ -29,24 +28,25 @@ use Rattle.ir.specs.declared.control.Frame.{Frame}
 use Rattle.ir.specs.declared.form.Operation.{Operation}
 use Rattle.ir.specs.declared.form.Operation.TheVariants as operation
 use Rattle.ir.specs.Machine.{computed, numbered_as}
+use Rattle.ir.specs.Typed.{IsWide}
 use Rattle.matching.specs.Matches.{Placed, placed}
 use Rattle.select430.specs.declared.part.Part.{Part}
 use Rattle.select430.specs.declared.part.Part.TheVariants.{Do}
 use Rattle.select430.specs.Code.{perform, operate, left_register, right_register}
 use Rattle.steps430.specs.Setting.{Setting, IsLaid}
 use Rattle.steps430.specs.Holds.{is_missing, HasCode, value_code}
+use Rattle.steps430.specs.Lying.{StayInside, ObjectsLie}
 use Rattle.steps430.specs.Standing.{Stage}
-use Rattle.steps430.proofs.Differences.{difference_is, counting, AreClose, differs}
+use Rattle.steps430.proofs.Differences.{difference_is, counting, differs}
 use Rattle.steps430.proofs.Helped as helped
 use Rattle.steps430.proofs.Minus.{count_is}
 use Rattle.steps430.proofs.Moves.{From, from_do, with_regs}
-use Rattle.steps430.proofs.Plus.{AsSaid, one_of, sum_is, both_there, pointer_to_is}
+use Rattle.steps430.proofs.Plus.{one_of, sum_is, both_there, pointer_to_is}
 use Rattle.steps430.proofs.Products.{IsHelped, helper_value}
 use Rattle.steps430.proofs.Routines.{from_helps, helps_with}
 use Rattle.steps430.proofs.Scaled.{scaling, Spares, helps_spares}
 use Rattle.steps430.proofs.Sliding.{numbered_code, numbered_missing, slides}
 use Rattle.steps430.proofs.Sums.{are_numbers, IsPlain, Plus, Minus, Both, Either, Any, result, computes_word}
-use Rattle.steps430.proofs.Words.{IsWide}
 
 -- all values are such
 abbrev pub Anything : State → Value → Value → Type 0
@@ -203,26 +203,26 @@ number_in true alive a b r h k = h
 number_in false alive a b r h k = k
 
 pub plus_computes : (p : Setting) → IsLaid p → (minus : Bool) (size : ℕ) (t u : Option IntType) (swapped : Bool)
-    → Computes p (scaling minus size + 1) (operation.PointerPlus minus size t u swapped) (λ s. AsSaid swapped)
+    → Computes p (scaling minus size + 1) (operation.PointerPlus minus size t u swapped) Anything
 plus_computes p lay minus size t u swapped = record {
   first = above_left swapped;
   second = above_right swapped;
   apart = two_registers swapped;
   there = λ s a b c fine e.
-      let to = pointer_to_is (sum_of s minus size (numbered_as t a) (numbered_as u b)) c e in
+      let to = pointer_to_is (sum_of s swapped minus size (numbered_as t a) (numbered_as u b)) c e in
       let both = both_there swapped s minus size (numbered_as t a) (numbered_as u b) to.location
-      (sum_is swapped s minus size t u a b to.location fine to.is) in
+      (sum_is swapped s minus size t u a b to.location to.is) in
       (numbered_missing t a ∙ both.0, numbered_missing u b ∙ both.1);
   performs = λ Q j s next frames all own segment base sp ps r m st x y f end more a b c low h fine e has_a has_b code go.
       let alive : List Placed = placed p.core (kept s) in
-      let to = pointer_to_is (sum_of s minus size (numbered_as t a) (numbered_as u b)) c e in
+      let to = pointer_to_is (sum_of s swapped minus size (numbered_as t a) (numbered_as u b)) c e in
       let code_a = numbered_code alive t a (r (left_register (operation.PointerPlus minus size t u swapped))) has_a in
       let code_b = numbered_code alive u b (r (right_register (operation.PointerPlus minus size t u swapped))) has_b in
       let some : scaling minus size + suc j ≡ scaling minus size + 1 + j = omega arith in
       subst (λ (z : ℕ). Leads z (at segment ps r m st x y) Q) some
       (slides p lay Q j s next frames all own segment base sp ps r m st x y f end more minus size
       (one_of swapped (numbered_as t a) (numbered_as u b)) (one_of swapped (numbered_as u b) (numbered_as t a)) to.location low h
-      (sum_is swapped s minus size t u a b to.location fine to.is)
+      (sum_is swapped s minus size t u a b to.location to.is)
       (pointer_in swapped alive (numbered_as t a) (numbered_as u b) r code_a code_b)
       (number_in swapped alive (numbered_as t a) (numbered_as u b) r code_a code_b) code
       (λ r2 m2 st2 y2 points spares code2 stage2.
@@ -231,9 +231,9 @@ plus_computes p lay minus size t u swapped = record {
 
 -- ---- differences of pointers
 
-pub difference_computes : (p : Setting) → IsLaid p → (size : ℕ)
-    → Computes p (counting size + 1) (operation.Difference size) (λ s. AreClose (nat_eq size 1) size)
-difference_computes p lay size = record {
+pub difference_computes : (p : Setting) → IsLaid p → ObjectsLie p → (size : ℕ)
+    → Computes p (counting size + 1) (operation.Difference size) StayInside
+difference_computes p lay lie size = record {
   first = omega arith;
   second = omega arith;
   apart = omega arith;
@@ -246,7 +246,7 @@ difference_computes p lay size = record {
       let n = count_is (difference s size a b) c e in
       let some : suc (counting size + j) ≡ counting size + 1 + j = omega arith in
       subst (λ (z : ℕ). Leads z (at segment ps r m st x y) Q) some
-      (differs p lay Q j s next frames all own segment base sp ps x f end more size a b n.count r m st y low h
+      (differs p lay lie Q j s next frames all own segment base sp ps x f end more size a b n.count r m st y low h
       (difference_is s size a b n.count n.is) fine has_a has_b code
       (λ r2 m2 st2 y2 in_r12 spares code2 stage2.
       go r2 m2 st2 y2 (subst (λ (z : Value). HasCode (value_code alive z) (r2 12)) n.value in_r12) spares code2 stage2));

@@ -9,7 +9,7 @@ use Rattle.c_values.specs.declared.value.Location.{Location}
 use Rattle.c_values.specs.declared.value.Value.{Value}
 use Rattle.c_values.specs.declared.value.Value.TheVariants.{Int, Null, Undefined}
 use Rattle.c_run.specs.Actions.{leave, finish}
-use Rattle.c_run.specs.Runs.{Wrong, Action, ◌>>=◌, pure, asked}
+use Rattle.c_run.specs.Runs.{Wrong, Action, ◌>>=◌, pure, given, asked}
 use Rattle.c_run.proofs.Counting.{over, Counting, counting_then, counting_seq, counting_pure, counting_stop, counting_given, counting_asked, counting_if, counting_load, counting_store, counting_mark, counting_sense, counting_emit, counting_enter, counting_leave, counting_params, counting_cleared, counting_stamped, counting_timely, counting_open, counting_check, counting_close}
 use Rattle.ir.specs.declared.form.Ir.{Ir}
 use Rattle.ir.specs.declared.form.IrFunction.{IrFunction}
@@ -88,12 +88,14 @@ unfolding m.on_target
 counting_target first target.Temporary ts h = counting_place ts h
 counting_target first (target.Known of offset) ts h = h (m.known first of offset) ts
 
-counting_before : (k : Keep) (ts : List Temporary) {go : Value → List Temporary → Action Control}
-    → ((v : Value) (us : List Temporary) → Counting (go v us)) → Counting (m.on_before k ts go)
+counting_before : (node : ℕ) (k : Keep) (ts : List Temporary) {go : Value → List Temporary → Action Control}
+    → ((v : Value) (us : List Temporary) → Counting (go v us)) → Counting (m.on_before node k ts go)
 unfolding m.on_before
-counting_before keep.Before ts h = counting_value ts h
-counting_before keep.Nothing ts h = h Undefined ts
-counting_before keep.Stored ts h = h Undefined ts
+counting_before node keep.Before ts {go} h =
+    counting_value ts {go = λ b us. given node (present b) >>= λ w. go w us}
+    (λ b us. counting_then _ _ (counting_given node (present b)) (λ w. h w us))
+counting_before node keep.Nothing ts h = h Undefined ts
+counting_before node keep.Stored ts h = h Undefined ts
 
 counting_test : (node first : ℕ) (t : Test) (ts : List Temporary) {go : Value → List Temporary → Action Control}
     → ((v : Value) (us : List Temporary) → Counting (go v us)) → Counting (m.on_test node first t ts go)
@@ -165,10 +167,10 @@ module _ (ir : Ir) (rs : List Reading) where
   counting_act node (step.Peek d k) f p first ts below =
       counting_place ts (λ l us. counting_depth d us (counting_then _ _ (counting_load node l k) (λ w. counting_pure _)))
   counting_act node (step.Store d to k x keeps) f p first ts below =
-      counting_operand node first x ts (λ v us. counting_before keeps us (λ b ws. counting_target first to ws
+      counting_operand node first x ts (λ v us. counting_before node keeps us (λ b ws. counting_target first to ws
       (λ l xs. counting_depth d xs (counting_then _ _ (counting_store node l k v true) (λ w. counting_pure _)))))
   counting_act node (step.StoreLocal d n offset k x keeps) f p first ts below =
-      counting_operand node first x ts (λ v us. counting_before keeps us (λ b ws. counting_depth d ws
+      counting_operand node first x ts (λ v us. counting_before node keeps us (λ b ws. counting_depth d ws
       (counting_then _ _ (counting_store node (location (first + n) offset) k v false) (λ w. counting_pure _))))
   counting_act node (step.Update d to k op x keeps) f p first ts below =
       counting_operand node first x ts (λ v us. counting_target first to us (λ l ws. counting_depth d ws

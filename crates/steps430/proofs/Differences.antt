@@ -3,7 +3,7 @@ use Rattle.std.proofs.Common.{◌≡◌, ◌≢◌, ℕ, suc, ◌+◌, ◌-◌, 
 use Rattle.std.proofs.lemmas.Bool.{eqb-true}
 use Rattle.std.proofs.lemmas.Bool.Decides.{nat_tests}
 use Rattle.std.proofs.lemmas.Int.{ints}
-use Rattle.std.specs.Prelude.{ℤ, pos, negsuc, neg_ℤ, ◌-ℤ◌, int_div, int_rem, nat_eq, nat_lt, is_none, ◌||◌}
+use Rattle.std.specs.Prelude.{ℤ, pos, negsuc, neg_ℤ, ◌-ℤ◌, int_div, int_rem, nat_eq, nat_le, nat_lt, is_none, ◌&&◌, ◌||◌}
 use Rattle.base16.specs.Board.{segment_start}
 use Rattle.base16.specs.Integer.{wrapped, signed}
 use Rattle.isa430.specs.declared.instr.TwoOp.TheVariants.{Mov, Sub}
@@ -31,13 +31,16 @@ use Rattle.cells430.specs.Stretch.{Course, at, Leads}
 use Rattle.cells430.proofs.Lift.{sets, leads_weaker}
 use Rattle.core_tree.specs.declared.program.Core.{Core}
 use Rattle.ir.specs.declared.control.Frame.{Frame}
+use Rattle.matching.specs.Laid.{IsMade}
 use Rattle.matching.specs.Matches.{Placed, placed, address_of, pointer_code}
+use Rattle.matching.specs.Spacing.{LiesWhole}
 use Rattle.select430.specs.Frames.{word}
 use Rattle.select430.specs.declared.part.Part.{Part}
 use Rattle.select430.specs.declared.part.Part.TheVariants.{Helps}
 use Rattle.select430.specs.Code.{constant, two, set, counted}
 use Rattle.steps430.specs.Setting.{Setting, IsLaid}
 use Rattle.steps430.specs.Holds.{HasCode, value_code}
+use Rattle.steps430.specs.Lying.{StaysInside, StayInside, ObjectsLie}
 use Rattle.steps430.specs.Standing.{Stage}
 use Rattle.steps430.proofs.Moves.{From, from_do, with_regs}
 use Rattle.steps430.proofs.Scalars.{found_object}
@@ -71,17 +74,22 @@ pub record IsDifference (s : State) (size : ℕ) (a b : Value) (k : ℤ) : Type 
   pub is_right : b ≡ Pointer object right
   pub alive : is_none (object_of s object) ≡ false
   pub some : size ≢ 0
+  pub few : size < 32768
   pub quotient : int_div (pos left -ℤ pos right) (pos size) ≡ k
 
-divided_is : (z : ℤ) (size : ℕ) (k : ℤ) → divided z size ≡ Ok k → (size ≢ 0) × (int_div z (pos size) ≡ k)
-divided_is z size k e = from (nat_eq size 0) refl (is_zero (int_rem z (pos size))) e
+divided_is : (z : ℤ) (size : ℕ) (k : ℤ) → divided z size ≡ Ok k
+    → (size ≢ 0) × (size < 32768) × (int_div z (pos size) ≡ k)
+divided_is z size k e = from (nat_eq size 0) refl (nat_le size 32767) refl (is_zero (int_rem z (pos size))) e
   where
-    from : (b : Bool) → nat_eq size 0 ≡ b → (c : Bool)
-        → (if b then wrong 0 else (if c then fine (int_div z (pos size)) else wrong 9)) ≡ fine k
-        → (size ≢ 0) × (int_div z (pos size) ≡ k)
-    from true i c h = no_number 0 k h
-    from false i true h = ((λ j. grind (arith, nat_tests)), same_number (int_div z (pos size)) k h)
-    from false i false h = no_number 9 k h
+    from : (b : Bool) → nat_eq size 0 ≡ b → (d : Bool) → nat_le size 32767 ≡ d → (c : Bool)
+        → (if b then wrong 0 else (if d && c then fine (int_div z (pos size)) else wrong 9)) ≡ fine k
+        → (size ≢ 0) × (size < 32768) × (int_div z (pos size) ≡ k)
+    from true i d l c h = no_number 0 k h
+    from false i true l true h =
+        let few : size < 32768 = grind (arith, nat_tests) in
+        ((λ j. grind (arith, nat_tests)), few, same_number (int_div z (pos size)) k h)
+    from false i true l false h = no_number 9 k h
+    from false i false l c h = no_number 9 k h
 
 pub not_gone : (b : Bool) (x : Result ℤ ℕ) (k : ℤ) → (if b then wrong 6 else x) ≡ fine k → (b ≡ false) × (x ≡ fine k)
 not_gone true x k e = no_number 6 k e
@@ -107,7 +115,8 @@ alive_is s size (Pointer m x) (Pointer n y) k out e = from (nat_eq m n) refl e
           is_right = ap (λ (z : ℕ). Pointer z y) (sym (eqb-true m n i));
           alive = first_false (is_none (object_of s m)) (is_none (object_of s n)) out;
           some = d.0;
-          quotient = d.1;
+          few = d.1;
+          quotient = d.2;
         }
     from false i h = no_number 9 k h
 alive_is s size (Pointer m x) (Int j) k out e = no_number _ k e
@@ -180,18 +189,24 @@ signed_difference x y (negsuc n) few_x few_y e = signed_high n (omega (arith, in
 abbrev pub counting : ℕ → ℕ
 counting size = if nat_eq size 1 then 0 else 402
 
--- where a number of bytes is divided, it and the divisor are such that a signed word says them
-abbrev pub AreClose : (one : Bool) (size : ℕ) → (left right : Value) → Type 0
-AreClose false size (Pointer m x) (Pointer n y) = (x < 32768) × (y < 32768) × (size < 32768)
-AreClose one size a b = Unit {0}
-
-close_of : (one : Bool) (size object x y : ℕ) → one ≡ false → AreClose one size (Pointer object x) (Pointer object y)
-    → (x < 32768) × (y < 32768) × (size < 32768)
-close_of false size object x y e h = h
-close_of true size object x y e h = absurd (differ e)
+-- an offset in an object that is alive and lies whole is what a signed word says
+near_offset : (p : Setting) → ObjectsLie p → (s : State) (next n offset : ℕ) → IsMade p.core next (kept s)
+    → is_none (object_of s n) ≡ false → StaysInside s (Pointer n offset) → offset < 32768
+near_offset p lie s next n offset made there inside = from (object_of s n) refl there
   where
-    differ : true ≡ false → ⊥
-    differ j = cc
+    from : (o : Option Object) → object_of s n ≡ o → is_none o ≡ false → offset < 32768
+    from None i h = absurd (differ h)
+      where
+        differ : true ≡ false → ⊥
+        differ j = cc
+    from (Some o) i h =
+        let found = found_object p.core s n o i in
+        let whole : LiesWhole (record { object = o; address = found.0 }) =
+        found.1.among LiesWhole (lie.whole next (kept s) made) in
+        let most = inside o i in
+        let least = whole.from in
+        let last = whole.to in
+        omega arith
 
 counted_is : (size : ℕ) → nat_eq size 1 ≡ false → counted size ≡ set (pos (word size)) 13 ∷ Helps Sdiv16 ∷ []
 counted_is size e = ap (λ (b : Bool). if b then [] else set (pos (word size)) 13 ∷ Helps Sdiv16 ∷ []) e
@@ -204,9 +219,8 @@ quotient_value z k size few small e =
     ap (λ (i : ℤ). wrapped (int_div i (signed (wrapped (pos (word size)))))) small
     ∙ ap (λ (i : ℤ). wrapped (int_div z i)) divisor ∙ ap wrapped e
 
-module _ (p : Setting) (lay : IsLaid p) (Q : Ideal → Type 0) (n : ℕ) (s : State) (next : ℕ) (frames : List Frame)
-    (all own : Cells)
-    (segment base sp : ℕ) (ps : ℕ → ℕ) (x : Course) (f end : ℕ) (more : List Part) where
+module _ (p : Setting) (lay : IsLaid p) (lie : ObjectsLie p) (Q : Ideal → Type 0) (n : ℕ) (s : State) (next : ℕ)
+    (frames : List Frame) (all own : Cells) (segment base sp : ℕ) (ps : ℕ → ℕ) (x : Course) (f end : ℕ) (more : List Part) where
   abbrev Counts : (r : ℕ → ℕ) (k : ℤ) → Type 0
   Counts r k =
       (r2 m2 : ℕ → ℕ) (st2 : Bytes) (y2 : Meter) → r2 12 ≡ wrapped k → Spares r r2 → From p f (r2 0) more end
@@ -236,10 +250,10 @@ module _ (p : Setting) (lay : IsLaid p) (Q : Ideal → Type 0) (n : ℕ) (s : St
 
   counts : (size : ℕ) (z k : ℤ) (r m : ℕ → ℕ) (st : Bytes) (y : Meter) → segment_start segment + 4 ≤ sp
       → Stage p s next frames all own segment base sp ps r m st → r 12 ≡ wrapped z → size ≢ 0
-      → (nat_eq size 1 ≡ false → (size < 32768) × (signed (wrapped z) ≡ z)) → int_div z (pos size) ≡ k
+      → size < 32768 → signed (wrapped z) ≡ z → int_div z (pos size) ≡ k
       → From p f (r 0) (counted size ++ more) end → Counts r k
       → Leads (counting size + n) (at segment ps r m st x y) Q
-  counts size z k r m st y low h is some small quotient code go = from (nat_eq size 1) refl
+  counts size z k r m st y low h is some few small quotient code go = from (nat_eq size 1) refl
     where
       Result : ℕ → Type 0
       Result i =
@@ -254,18 +268,17 @@ module _ (p : Setting) (lay : IsLaid p) (Q : Ideal → Type 0) (n : ℕ) (s : St
       from true e = subst Result (sym (eqb-true size 1 e)) one quotient code
       from false e =
           let many : counting size ≡ 402 = ap (λ (b : Bool). if b then 0 else 402) e in
-          let t = small e in
           leads_weaker (suc (suc (400 + n))) (counting size + n) _ Q Q (omega (arith, many)) (λ u k. k)
-          (by_division size z k r m st y low h is some t.0 t.1 quotient
+          (by_division size z k r m st y low h is some few small quotient
           (subst (λ (parts : List Part). From p f (r 0) (parts ++ more) end) (counted_is size e) code) go)
 
   -- two pointers in R12 and R13
   pub differs : (size : ℕ) (a b : Value) (k : ℤ) (r m : ℕ → ℕ) (st : Bytes) (y : Meter) → segment_start segment + 4 ≤ sp
-      → Stage p s next frames all own segment base sp ps r m st → IsDifference s size a b k → AreClose (nat_eq size 1) size a b
+      → Stage p s next frames all own segment base sp ps r m st → IsDifference s size a b k → StayInside s a b
       → HasCode (value_code (placed p.core (kept s)) a) (r 12) → HasCode (value_code (placed p.core (kept s)) b) (r 13)
       → From p f (r 0) (two Sub 13 12 ∷ (counted size ++ more)) end → Counts r k
       → Leads (suc (counting size + n)) (at segment ps r m st x y) Q
-  differs size a b k r m st y low h diff close has_a has_b code go =
+  differs size a b k r m st y low h diff inside has_a has_b code go =
       let alive : List Placed = placed p.core (kept s) in
       let z : ℤ = pos diff.left -ℤ pos diff.right in
       let found = alive_address p.core s diff.object diff.alive in
@@ -275,9 +288,12 @@ module _ (p : Setting) (lay : IsLaid p) (Q : Ideal → Type 0) (n : ℕ) (s : St
       let is_b : r 13 ≡ (found.0 + diff.right) % 65536 =
       subst (λ (o : Option ℕ). HasCode (pointer_code o diff.right) (r 13)) found.1
       (subst (λ (v : Value). HasCode (value_code alive v) (r 13)) diff.is_right has_b) in
-      let near : AreClose (nat_eq size 1) size (Pointer diff.object diff.left) (Pointer diff.object diff.right) =
-      subst (λ (v : Value). AreClose (nat_eq size 1) size v (Pointer diff.object diff.right)) diff.is_left
-      (subst (λ (v : Value). AreClose (nat_eq size 1) size a v) diff.is_right close) in
+      let in_left : StaysInside s (Pointer diff.object diff.left) =
+      subst (λ (v : Value). StaysInside s v) diff.is_left inside.0 in
+      let in_right : StaysInside s (Pointer diff.object diff.right) =
+      subst (λ (v : Value). StaysInside s v) diff.is_right inside.1 in
+      let near_left = near_offset p lie s next diff.object diff.left h.made diff.alive in_left in
+      let near_right = near_offset p lie s next diff.object diff.right h.made diff.alive in_right in
       let c = from_do p f (r 0) (Two Sub false (Reg 13) (ToReg 12)) (counted size ++ more) end code in
       let r1 : ℕ → ℕ = set_reg (flagged (set_reg r 0 (r 0 + 2)) (two_status Sub false (r 2) (r 12) (r 13))) 12
       ((r 12 + 65536 - (r 13 + 0)) % 65536) in
@@ -286,7 +302,6 @@ module _ (p : Setting) (lay : IsLaid p) (Q : Ideal → Type 0) (n : ℕ) (s : St
       (λ st2 y2 facts wide.
       counts size z k r1 m st2 y2 low (with_regs p s next all own segment base sp ps frames r m r1 st st2 h.stack wide facts h)
       (difference_word found.0 diff.left diff.right (r 12) (r 13) is_a is_b) diff.some
-      (λ e. let t = close_of (nat_eq size 1) size diff.object diff.left diff.right e near in
-      (t.2, signed_difference diff.left diff.right z t.0 t.1 refl)) diff.quotient c.1
+      diff.few (signed_difference diff.left diff.right z near_left near_right refl) diff.quotient c.1
       (λ r2 m2 st3 y3 in_r12 spares code3 stage3.
       go r2 m2 st3 y3 in_r12 (record { nine = spares.nine; ten = spares.ten }) code3 stage3))

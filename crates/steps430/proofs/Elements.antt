@@ -1,13 +1,11 @@
 -- Elements of an array at a place.
-use Rattle.std.proofs.Common.{◌≡◌, ℕ, suc, ◌+◌, ◌%◌, ◌<◌, refl, ap, ◌∙◌, subst, arith, Bool, true, false, List, ◌∷◌, ◌++◌, length, drop, Option, Some, None, Result, Ok, Err, if◌then◌else◌}
+use Rattle.std.proofs.Common.{◌≡◌, ℕ, suc, ◌+◌, ◌%◌, refl, ap, ◌∙◌, subst, arith, Bool, true, false, List, ◌∷◌, ◌++◌, length, drop, Option, Some, None, Result, Ok, Err, if◌then◌else◌}
 use Rattle.std.proofs.lemmas.Bool.{lt-ltb}
-use Rattle.std.specs.Prelude.{ℤ, pos, ◌+ℤ◌, ◌*ℤ◌, slice_get}
+use Rattle.std.specs.Prelude.{ℤ, pos, ◌+ℤ◌, ◌*ℤ◌}
 use Rattle.base16.specs.Integer.{wrapped}
 use Rattle.base16.specs.declared.integer.IntType.{IntType}
 use Rattle.core430.specs.Registers.{set_reg}
-use Rattle.ideal430.specs.Ideal.{Ideal}
 use Rattle.c_run.specs.Actions.{kept}
-use Rattle.c_run.specs.Runs.{Run}
 use Rattle.c_values.specs.Pointers.{moved, moved_from, element, gone_at}
 use Rattle.c_values.specs.Values.{numbered}
 use Rattle.c_values.specs.declared.state.State.{State}
@@ -17,12 +15,10 @@ use Rattle.c_values.specs.declared.value.Value.TheVariants.{Int, Pointer, Null, 
 use Rattle.cells430.specs.Stretch.{Course, outside}
 use Rattle.ir.specs.declared.control.Temporary.{Temporary}
 use Rattle.ir.specs.declared.control.Temporary.TheVariants as temporary
-use Rattle.ir.specs.declared.control.Frame.{Frame}
 use Rattle.ir.specs.declared.control.Control.TheVariants.{At}
 use Rattle.ir.specs.declared.form.IrFunction.{IrFunction}
 use Rattle.ir.specs.declared.form.Operand.{Operand}
 use Rattle.ir.specs.declared.form.StepKind.TheVariants as step
-use Rattle.ir.specs.Machine.{act}
 use Rattle.ir.specs.Table.{taken}
 use Rattle.matching.specs.Matches.{Placed, placed, pointer_code}
 use Rattle.select430.specs.Frames.{temporaries_at}
@@ -30,14 +26,14 @@ use Rattle.select430.specs.Code.{bring, keep, moved as moved_parts}
 use Rattle.steps430.specs.Setting.{Setting, function_of, step_at, IsLaid}
 use Rattle.steps430.specs.Holds.{is_missing, HasCode, object_address, value_code, place_code}
 use Rattle.steps430.specs.Standing.{StandsAt}
-use Rattle.steps430.specs.Follows.{Follows}
+use Rattle.steps430.specs.Follows.{DoesStep}
 use Rattle.steps430.proofs.Moves.{level, with_regs, without_top}
 use Rattle.steps430.proofs.Outcomes.{Gives, operand_follows, place_follows, depth_follows, asked_follows}
 use Rattle.steps430.proofs.Operands.{brings_top, brings_value}
 use Rattle.steps430.proofs.Steps.{begins, falls, keeps_last, left_by}
 use Rattle.steps430.proofs.Plain.{room_of}
 use Rattle.steps430.proofs.Scaled.{scaling, moves}
-use Rattle.steps430.proofs.Sliding.{PointsTo, moved_points, numbered_code, numbered_missing}
+use Rattle.steps430.proofs.Sliding.{PointsTo, moved_near, within_points, numbered_code, numbered_missing}
 
 abbrev fine : Location → Result Location ℕ
 fine l = Ok l
@@ -71,28 +67,21 @@ element_is s size l Undefined to e = from (gone_at s l.object) e
 place_points : (alive : List Placed) (s : State) (x : Option ℕ) (offset : ℕ) (by : ℤ) (to : Location) (a v : ℕ)
     → moved_from s (pos offset +ℤ by) x ≡ Ok to → HasCode (pointer_code (object_address alive x) offset) a
     → v ≡ (wrapped by + a + 0) % 65536 → PointsTo alive to v
-unfolding moved
 place_points alive s None offset by to a v e has is = no_place 12 to e
-place_points alive s (Some n) offset by to a v e has is = moved_points alive s n offset by to a v e has is
+place_points alive s (Some n) offset by to a v e has is = within_points alive s n offset by to a v e has is
 
-near_points : (alive : List Placed) (s : State) (l : Location) (by : ℤ) (to : Location) (a v : ℕ) → l.offset < 65536
+near_points : (alive : List Placed) (s : State) (l : Location) (by : ℤ) (to : Location) (a v : ℕ)
     → moved s l by ≡ Ok to → HasCode (place_code alive l) a → v ≡ (wrapped by + a + 0) % 65536 → PointsTo alive to v
-unfolding moved
-near_points alive s l by to a v near e has is =
-    place_points alive s l.object l.offset by to a v e
+near_points alive s l by to a v e has is =
+    let h = moved_near s l by to e in
+    place_points alive s l.object l.offset by to a v h.moves
     (subst (λ (b : Bool). HasCode (if b then pointer_code (object_address alive l.object) l.offset else None) a)
-    (lt-ltb l.offset 65536 near) has) is
+    (lt-ltb l.offset 65536 h.near) has) is
 
 module _ (p : Setting) (lay : IsLaid p) where
-  -- An element of a place with an offset of its own. One whose offset stands for all great ones has an address that is not known.
-  pub element_does : (d size : ℕ) (own : IntType) (X : Operand) (f q first : ℕ) (ts : List Temporary) (ls : List Frame) (node : ℕ)
-      (r : Run) (o : Ideal)
-      → slice_get (function_of p f).steps q ≡ Some (record { node = node; kind = step.Element d size own X })
-      → StandsAt p (At f q first ts ls) r o
-      → ((i : Value) (l : Location) (ws : List Temporary) → Gives r.state first X ts i (temporary.Place l ∷ ws)
-      → l.offset < 65536)
-      → Follows p (suc (suc (scaling false size + 2))) (act p.ir p.readings node (step.Element d size own X) f q first ts ls r) o
-  element_does d size own X f q first ts ls node r o e h near =
+  pub element_does : (d size : ℕ) (own : IntType) (X : Operand)
+      → DoesStep p (suc (suc (scaling false size + 2))) (step.Element d size own X)
+  element_does d size own X f q first ts ls node r o e h =
       let limit : ℕ = suc (suc (scaling false size + 2)) in
       begins p lay limit _ (step.Element d size own X) f q first node ts ls r o e h
       (λ all own_cells segment sp ps rr m st y stage low stands code.
@@ -136,4 +125,4 @@ module _ (p : Setting) (lay : IsLaid p) where
       keeps_last p lay 0 f q (q + 1) first d 12 (r3 12) (temporary.Place to) ws ls r all own_cells segment sp ps r3 m3 st4 y4
       stage4
       low code4 depth room refl
-      (near_points alive r.state l (el.count *ℤ pos size) to w (r3 12) (near i l ws g2) el.moves has in_r12).place))))))))
+      (near_points alive r.state l (el.count *ℤ pos size) to w (r3 12) el.moves has in_r12).place))))))))

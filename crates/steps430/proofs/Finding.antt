@@ -1,5 +1,5 @@
 -- Steps that are done where what they find is as it has to be.
-use Rattle.std.proofs.Common.{◌≡◌, ℕ, ◌≤◌, List, ◌∷◌, Some}
+use Rattle.std.proofs.Common.{◌≡◌, ℕ, List, ◌∷◌, Some}
 use Rattle.std.specs.Prelude.{slice_get}
 use Rattle.ideal430.specs.Ideal.{Ideal}
 use Rattle.c_run.specs.Runs.{Run}
@@ -16,7 +16,6 @@ use Rattle.steps430.specs.Setting.{Setting, function_of}
 use Rattle.steps430.specs.Standing.{StandsAt}
 use Rattle.steps430.specs.Follows.{Follows, DoesStep}
 use Rattle.steps430.proofs.Outcomes.{Gives}
-use Rattle.steps430.proofs.Fitting.{follows_weaker}
 
 -- what a step finds when it is made
 abbrev pub Finds : Type 1
@@ -44,12 +43,7 @@ abbrev pub FindsTop : (State → Value → Value → Type 0) → Finds
 FindsTop IsFine s first ts =
     (a b : Value) (ws : List Temporary) → ts ≡ temporary.Value b ∷ temporary.Value a ∷ ws → IsFine s a b
 
-pub where_weaker : (p : Setting) (l m : ℕ) (k : StepKind) (IsFine : Finds) → l ≤ m → DoesWhere p l k IsFine
-    → DoesWhere p m k IsFine
-where_weaker p l m k IsFine few h =
-    λ f q first ts below node r t e s fine. follows_weaker p l m _ t few (h f q first ts below node r t e s fine)
-
--- and so wherever the machine stands, if that holds there always
+-- it does so wherever the machine stands, if that holds there always
 pub where_always : (p : Setting) (l : ℕ) (k : StepKind) (IsFine : Finds)
     → ((s : State) (first : ℕ) (ts : List Temporary) → IsFine s first ts) → DoesWhere p l k IsFine → DoesStep p l k
 where_always p l k IsFine always h =

@@ -7,7 +7,7 @@ use Rattle.ideal430.specs.Ideal.{Ideal}
 use Rattle.ir.specs.declared.control.Control.{Control}
 use Rattle.ir.specs.declared.form.StepKind.{StepKind}
 use Rattle.steps430.specs.Setting.{Setting}
-use Rattle.steps430.specs.Follows.{Follows, DoesStep}
+use Rattle.steps430.specs.Follows.{Follows}
 use Rattle.steps430.specs.Calls.{DoesResult}
 use Rattle.steps430.specs.Whole.{Enters}
 
@@ -21,9 +21,6 @@ follows_weaker p l m (Stopped (Over kind s used)) t few h = longer (l - 1) (m - 
 follows_weaker p l m (Stopped Lacks) t few h = longer l m t _ few h
 follows_weaker p l m (Stopped (Undefined rule node)) t few h = tt
 follows_weaker p l m (Stopped Wrong) t few h = tt
-
-pub does_weaker : (p : Setting) (l m : ℕ) (k : StepKind) → l ≤ m → DoesStep p l k → DoesStep p m k
-does_weaker p l m k few h = λ f q first ts below node r t e s. follows_weaker p l m _ t few (h f q first ts below node r t e s)
 
 pub enters_weaker : (p : Setting) (l m : ℕ) (k : StepKind) → l ≤ m → Enters p l k → Enters p m k
 enters_weaker p l m k few h = λ f d args below node r t e s. follows_weaker p l m _ t few (h f d args below node r t e s)

@@ -20,6 +20,7 @@ use Rattle.ir.specs.declared.form.Operation.TheVariants as operation
 use Rattle.ir.specs.declared.form.StepKind.TheVariants as step
 use Rattle.ir.specs.Machine.{computed}
 use Rattle.ir.specs.Table.{taken, is_helped}
+use Rattle.ir.specs.Typed.{IsWide}
 use Rattle.matching.specs.Matches.{Placed, placed}
 use Rattle.select430.specs.Frames.{temporaries_at}
 use Rattle.select430.specs.declared.part.Part.{Part}
@@ -34,7 +35,6 @@ use Rattle.steps430.proofs.Outcomes.{depth_follows, asked_follows}
 use Rattle.steps430.proofs.Steps.{begins, falls, keeps_last}
 use Rattle.steps430.proofs.Plain.{room_of}
 use Rattle.steps430.proofs.Pairs.{operands_follow, brings_two}
-use Rattle.steps430.proofs.Words.{IsWide}
 use Rattle.steps430.proofs.Sums.{are_numbers}
 use Rattle.steps430.proofs.Routines.{from_helps, helps_with}
 use Rattle.steps430.proofs.Products.{IsHelped, Times, Signed_quotient, Quotient, Signed_remainder, Remainder, Left, Signed_right, Right, helper_value}

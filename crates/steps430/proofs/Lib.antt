@@ -74,5 +74,6 @@ pub mod BesidesPlain
 pub mod WithinFound
 pub mod BranchPlus
 pub mod WithinCalls
-pub mod WithinScaled
+pub mod WithinOperations
+pub mod WithinAll
 pub mod Lying

@@ -50,7 +50,6 @@ use Rattle.ir.specs.declared.form.Base.{Base}
 use Rattle.ir.specs.declared.form.Base.TheVariants as base
 use Rattle.ir.specs.declared.form.IrFunction.{IrFunction}
 use Rattle.ir.specs.declared.form.Keep.{Keep}
-use Rattle.ir.specs.declared.form.Keep.TheVariants as keeping
 use Rattle.ir.specs.declared.form.Operand.{Operand}
 use Rattle.ir.specs.declared.form.StepKind.TheVariants as step
 use Rattle.ir.specs.declared.form.Target.{Target}
@@ -64,19 +63,19 @@ use Rattle.select430.specs.declared.part.Part.{Part}
 use Rattle.select430.specs.declared.part.Part.TheVariants.{Do}
 use Rattle.select430.specs.Code.{constant, is_char, service, store_service, bring, bring_target, keep, kept as kept_code}
 use Rattle.steps430.specs.Setting.{Setting, function_of, step_at, IsNamed, target_bases, operand_bases, IsLaid}
-use Rattle.steps430.specs.Holds.{is_missing, HasCode, object_address, place_code, value_code}
+use Rattle.steps430.specs.Holds.{HasCode, object_address, place_code, value_code}
 use Rattle.steps430.specs.Standing.{StandsAt, Stage}
 use Rattle.steps430.specs.Follows.{Follows, DoesStep}
 use Rattle.steps430.proofs.Marks.{mark_by_follows, follows_after, counted_stage}
 use Rattle.steps430.proofs.Moves.{From, from_do, level, with_regs, without_top}
 use Rattle.steps430.proofs.Operands.{brings_top, brings_value}
-use Rattle.steps430.proofs.Outcomes.{Gives, operand_follows, depth_follows, place_follows}
+use Rattle.steps430.proofs.Outcomes.{operand_follows, depth_follows, place_follows}
 use Rattle.steps430.proofs.Plain.{room_of}
 use Rattle.steps430.proofs.Reading.{local_found, global_found}
 use Rattle.steps430.proofs.Scalars.{accesses}
 use Rattle.steps430.proofs.Steps.{begins, falls, stands_now, keeps_last, left_by}
 use Rattle.steps430.proofs.Stored.{above_outputs, accessed_cell, stage_stored}
-use Rattle.steps430.proofs.Stores.{low, fitted_there, stored_code, code_after, IsBelow, OfNothing, OfStored, OfBefore, below_length, before_follows, Thirteen, ends_stored, ends_kept}
+use Rattle.steps430.proofs.Stores.{low, fitted_there, stored_code, code_after, IsBelow, OfNothing, OfStored, OfBefore, below_length, before_follows, keeping_few, Thirteen, ends_stored, ends_kept}
 use Rattle.steps430.proofs.Sums.{result}
 use Rattle.steps430.proofs.Values.{IsNumber, Own, Generated, number_is, brings_number}
 
@@ -415,33 +414,28 @@ module _ (p : Setting) (lay : IsLaid p) (f q first : ℕ) (ls : List Frame) (us 
 
 -- ---- what a marked store leaves
 
--- a value from before that is kept of a place on the stack is brought anew, and so may not be missing
-abbrev pub IsThereBelow : Target → Keep → Value → Type 0
-IsThereBelow target.Temporary keeping.Before b = is_missing b ≡ false
-IsThereBelow to keeps b = Unit {0}
-
 module _ (p : Setting) (lay : IsLaid p) (f q q2 first : ℕ) (ls : List Frame) (r : Run) (all own : Cells) (segment sp : ℕ)
     (ps rr m : ℕ → ℕ) (st : Bytes) (y : Meter) where
   ends_target : (d : ℕ) (k : Kind) (to : Target) (l : Location) (keeps : Keep) (b w : Value) (xs ws us : List Temporary) (c : ℕ)
-      → IsBelow keeps b ws us → IsTarget first to ws l xs → IsThereBelow to keeps b
+      → IsBelow keeps b ws us → IsTarget first to ws l xs
       → Stage p r.state r.next (level f q first us ∷ ls) all own segment sp sp ps rr m st → segment_start segment + 4 ≤ sp
       → From p f (rr 0) (kept_code p.ir (function_of p f) keeps k to d 13) (step_at p f q2) → length xs ≡ d
       → temporaries_at (function_of p f) + 2 * (d + max c (left_of keeps)) ≤ (function_of p f).frame
       → HasCode (value_code (placed p.core (kept r.state)) w) (low (is_char k) (rr 13))
-      → Leads 2 (at segment ps rr m st (outside r.state.marks (drop r.used p.readings)) y)
+      → Leads (keeping_few keeps) (at segment ps rr m st (outside r.state.marks (drop r.used p.readings)) y)
       (StandsAt p (At f q2 first (left_values keeps w b xs) ls) r)
-  ends_target d k to l keeps b w xs ws us c below (OfKnown of offset) there stage start code depth room has =
+  ends_target d k to l keeps b w xs ws us c below (OfKnown of offset) stage start code depth room has =
       ends_kept p lay f q q2 first ls r all own segment sp ps rr m st y d 13 k of offset keeps b w ws us c Thirteen below stage
       start code
       depth room has
-  ends_target d k to l keeps b w xs ws us c OfNothing OfPlace there stage start code depth room has =
-      stands_now p lay 2 f q q2 first us xs ls r all own segment sp ps rr m st y
+  ends_target d k to l keeps b w xs ws us c OfNothing OfPlace stage start code depth room has =
+      stands_now p lay 0 f q q2 first us xs ls r all own segment sp ps rr m st y
       (without_top p r.state r.next all own segment sp sp ps f q q2 first (temporary.Place l) xs ls rr m st stage) start code
-  ends_target d k to l keeps b w xs ws us c OfStored OfPlace there stage start code depth room has =
+  ends_target d k to l keeps b w xs ws us c OfStored OfPlace stage start code depth room has =
       ends_stored p lay f q q2 first ls r all own segment sp ps rr m st y d 13 k w xs Thirteen
       (without_top p r.state r.next all own segment sp sp ps f q q first (temporary.Place l) xs ls rr m st stage) start code depth
       (room_of (temporaries_at (function_of p f)) d c 1 (function_of p f).frame room (omega arith)) has
-  ends_target d k to l keeps b w xs ws us c OfBefore OfPlace there stage start code depth room has =
+  ends_target d k to l keeps b w xs ws us c (OfBefore there) OfPlace stage start code depth room has =
       let fn : IrFunction = function_of p f in
       brings_top p lay (StandsAt p (At f q2 first (temporary.Value b ∷ xs) ls) r) r.state r.next all own segment sp ps rr m st
       (outside r.state.marks (drop r.used p.readings)) y f q first ls 1 (temporary.Value b) (temporary.Place l ∷ xs) (suc d) 12
@@ -464,38 +458,23 @@ without_before : (p : Setting) (s : State) (next : ℕ) (all own : Cells) (segme
     → Stage p s next (level f q first ws ∷ ls) all own segment base sp ps r m st
 without_before p s next all own segment base sp ps r m st f q first keeps b ws us ls OfNothing h = h
 without_before p s next all own segment base sp ps r m st f q first keeps b ws us ls OfStored h = h
-without_before p s next all own segment base sp ps r m st f q first keeps b ws us ls OfBefore h =
+without_before p s next all own segment base sp ps r m st f q first keeps b ws us ls (OfBefore there) h =
     without_top p s next all own segment base sp ps f q q first (temporary.Value b) ws ls r m st h
 
--- no value from before is kept of a place on the stack
-abbrev pub KeepsNoneBefore : Target → Keep → Type 0
-KeepsNoneBefore target.Temporary keeping.Before = ⊥
-KeepsNoneBefore to keeps = Unit {0}
-
-none_before : (to : Target) (keeps : Keep) (b : Value) → KeepsNoneBefore to keeps → IsThereBelow to keeps b
-none_before target.Temporary keeping.Nothing b h = tt
-none_before target.Temporary keeping.Stored b h = tt
-none_before target.Temporary keeping.Before b h = absurd h
-none_before (target.Known of offset) keeps b h = tt
-
 module _ (p : Setting) (lay : IsLaid p) where
-  -- a marked store does its step, where the value from before is there if it is kept of a place on the stack
-  pub store_if : (d : ℕ) (to : Target) (k : Kind) (x : Operand) (keeps : Keep) (f q first : ℕ) (ts : List Temporary)
-      (ls : List Frame)
-      (node : ℕ) (r : Run) (t : Ideal)
-      → slice_get (function_of p f).steps q ≡ Some (record { node = node; kind = step.Store d to k x keeps })
-      → StandsAt p (At f q first ts ls) r t
-      → ((v b : Value) (us ws : List Temporary) → Gives r.state first x ts v us → IsBelow keeps b ws us → IsThereBelow to keeps b)
-      → Follows p 6 (act p.ir p.readings node (step.Store d to k x keeps) f q first ts ls r) t
+  pub store_does : (d : ℕ) (to : Target) (k : Kind) (x : Operand) (keeps : Keep)
+      → DoesStep p (4 + keeping_few keeps) (step.Store d to k x keeps)
   unfolding with_scalar
-  store_if d to k x keeps f q first ts ls node r t e h known_below =
-      begins p lay 6 (act p.ir p.readings node (step.Store d to k x keeps) f q first ts ls r)
+  store_does d to k x keeps f q first ts ls node r t e h =
+      let limit : ℕ = 4 + keeping_few keeps in
+      let more_few : 3 + suc (keeping_few keeps) ≡ 4 + keeping_few keeps = omega arith in
+      begins p lay limit (act p.ir p.readings node (step.Store d to k x keeps) f q first ts ls r)
       (step.Store d to k x keeps) f q first node ts ls r t e h (λ all own segment sp ps rr m st y stage start stands code.
-      operand_follows p 6 _ node first x ts _ r (λ v us g.
-      before_follows p 6 _ keeps us _ r (λ b ws below.
-      target_follows p 6 _ first to ws _ r (λ l xs aim.
-      depth_follows p 6 _ d xs _ r (λ depth.
-      marked_follows p 6 _ node l k v _ r stage.no_block (λ n old w object there fit.
+      operand_follows p limit _ node first x ts _ r (λ v us g.
+      before_follows p limit _ node keeps us _ r (λ b ws below.
+      target_follows p limit _ first to ws _ r (λ l xs aim.
+      depth_follows p limit _ d xs _ r (λ depth.
+      marked_follows p limit _ node l k v _ r stage.no_block (λ n old w object there fit.
       let fn : IrFunction = function_of p f in
       let end : ℕ = step_at p f (q + 1) in
       let way : Course = outside r.state.marks (drop r.used p.readings) in
@@ -508,8 +487,9 @@ module _ (p : Setting) (lay : IsLaid p) where
       let deep : length us ≡ top = below_length keeps b ws us below
       ∙ ap (λ (i : ℕ). i + before_taken keeps) (target_length first to ws l xs aim ∙ ap (λ (i : ℕ). i + target_taken to) depth) in
       let left_stage = left_by p r.state r.next all own segment sp sp ps rr m st f q first x ts v us ls g stage in
-      let Q : Ideal → Type 0 = λ u. (u.marks ≡ r.state.marks) × Follows p 3 O u in
-      follows_after p 3 2 O (at segment ps rr m st way y)
+      let Q : Ideal → Type 0 = λ u. (u.marks ≡ r.state.marks) × Follows p (suc (keeping_few keeps)) O u in
+      subst (λ (i : ℕ). Follows p i O (at segment ps rr m st way y)) more_few
+      (follows_after p 3 (keeping_few keeps) O (at segment ps rr m st way y)
       (brings_target p lay Q r.state r.next all own segment sp ps rr m st way y f q first ls 1 14 d end to ws xs l
       (bring p.ir fn x top 13 ++ (service (store_service k) ∷ rest)) Fourteen
       (without_before p r.state r.next all own segment sp sp ps rr m st f q first keeps b ws us ls below left_stage) aim depth
@@ -525,19 +505,14 @@ module _ (p : Setting) (lay : IsLaid p) where
       let r2 : ℕ → ℕ = set_reg (set_reg r1 0 pc) 13 z in
       leads_now 0 _ Q (
         refl,
-        serves_store p lay f q first ls us r all own segment sp ps r2 m st3 y3 2 l n k old v w (behind_mark w go) c rest end
-            (left_by p r.state r.next all own segment sp sp ps r2 m st3 f q first x ts v us ls g stage2) object there fit has_place
-            has code2
+        serves_store p lay f q first ls us r all own segment sp ps r2 m st3 y3 (keeping_few keeps) l n k old v w
+            (behind_mark w go) c rest end
+            (left_by p r.state r.next all own segment sp sp ps r2 m st3 f q first x ts v us ls g stage2) object there fit
+            has_place has code2
             (λ i. refl) (λ i. refl) (λ budget all2 own2 m2 st4 y4 code3 stage3.
             ends_target p lay f q (q + 1) first ls (record r { state = counted s2; left = budget }) all2 own2 segment sp ps
             (behind r2) m2 st4 y4
             d k to l keeps b w xs ws us (target_taken to + before_taken keeps + taken x) below aim
-            (known_below v b us ws g below) stage3 start
-            code3 depth stands.room (code_after p r.state n l.offset w w (low (is_char k) z)
+            stage3 start code3 depth stands.room (code_after p r.state n l.offset w w (low (is_char k) z)
             (stored_code (placed p.core (kept r.state)) k v w z fit has).1)),
-      ))))))))))
-
-  pub store_does : (d : ℕ) (to : Target) (k : Kind) (x : Operand) (keeps : Keep) → KeepsNoneBefore to keeps
-      → DoesStep p 6 (step.Store d to k x keeps)
-  store_does d to k x keeps plain f q first ts ls node r t e h =
-      store_if d to k x keeps f q first ts ls node r t e h (λ v b us ws g below. none_before to keeps b plain)
+      )))))))))))

@@ -1,31 +1,27 @@
 -- Steps that count the elements between two pointers.
-use Rattle.std.proofs.Common.{◌≡◌, ℕ, suc, ◌+◌, ◌*◌, ◌≤◌, refl, ap, ◌∙◌, subst, arith, List, ◌∷◌, ◌++◌, drop, Some, Result, Ok, Err}
-use Rattle.std.specs.Prelude.{slice_get}
+use Rattle.std.proofs.Common.{◌≡◌, ℕ, suc, ◌+◌, ◌*◌, ◌≤◌, refl, ap, ◌∙◌, subst, arith, List, ◌∷◌, ◌++◌, drop, Result, Ok, Err}
 use Rattle.core430.specs.Registers.{set_reg}
-use Rattle.ideal430.specs.Ideal.{Ideal}
 use Rattle.c_run.specs.Actions.{kept}
-use Rattle.c_run.specs.Runs.{Run}
 use Rattle.c_values.specs.declared.value.Value.{Value}
 use Rattle.cells430.specs.Stretch.{Course, outside}
 use Rattle.ir.specs.declared.control.Temporary.{Temporary}
 use Rattle.ir.specs.declared.control.Temporary.TheVariants as temporary
-use Rattle.ir.specs.declared.control.Frame.{Frame}
 use Rattle.ir.specs.declared.control.Control.TheVariants.{At}
 use Rattle.ir.specs.declared.form.IrFunction.{IrFunction}
 use Rattle.ir.specs.declared.form.Operation.TheVariants as operation
 use Rattle.ir.specs.declared.form.StepKind.TheVariants as step
-use Rattle.ir.specs.Machine.{act, computed}
+use Rattle.ir.specs.Machine.{computed}
 use Rattle.matching.specs.Matches.{Placed, placed}
 use Rattle.select430.specs.Frames.{temporaries_at}
 use Rattle.select430.specs.declared.part.Part.{Part}
 use Rattle.steps430.specs.Setting.{Setting, function_of, step_at, IsLaid}
 use Rattle.steps430.specs.Holds.{is_missing, HasCode, value_code}
+use Rattle.steps430.specs.Lying.{StayInside, ObjectsLie}
 use Rattle.steps430.specs.Standing.{StandsAt, Stage}
-use Rattle.steps430.specs.Follows.{Follows}
 use Rattle.steps430.proofs.Outcomes.{value_follows, depth_follows, asked_follows}
 use Rattle.steps430.proofs.Steps.{begins, falls, keeps_last}
 use Rattle.std.proofs.lemmas.List.{append_assoc}
-use Rattle.std.specs.Prelude.{ℤ, nat_eq}
+use Rattle.std.specs.Prelude.{ℤ}
 use Rattle.isa430.specs.declared.instr.TwoOp.TheVariants.{Sub}
 use Rattle.c_values.specs.Pointers.{difference}
 use Rattle.c_values.specs.Values.{int_value}
@@ -36,9 +32,9 @@ use Rattle.select430.specs.Code.{bring, keep, two, counted}
 use Rattle.steps430.proofs.Moves.{From, level}
 use Rattle.steps430.proofs.Plain.{room_of}
 use Rattle.steps430.proofs.Pairs.{operands_follow, brings_two}
-use Rattle.steps430.proofs.Plus.{DoesTwo}
+use Rattle.steps430.proofs.Finding.{DoesWhere, FindsTwo, FindsTop}
 use Rattle.steps430.proofs.Besides.{brings_beside}
-use Rattle.steps430.proofs.Differences.{difference_is, counting, AreClose, differs}
+use Rattle.steps430.proofs.Differences.{difference_is, counting, differs}
 
 abbrev fine : Value → Result Value ℕ
 fine v = Ok v
@@ -62,11 +58,11 @@ count_is (Err n) c e = absurd (differ e)
     differ : wrong n ≡ fine c → ⊥
     differ k = cc
 
-module _ (p : Setting) (lay : IsLaid p) where
+module _ (p : Setting) (lay : IsLaid p) (lie : ObjectsLie p) where
   pub difference_does : (d size : ℕ) (left right : Operand)
-      → DoesTwo p (suc (suc (suc (counting size + 1)))) (step.Binary d (operation.Difference size) left right) left right
-      (AreClose (nat_eq size 1) size)
-  difference_does d size left right f q first ts ls node r o e h close =
+      → DoesWhere p (suc (suc (suc (counting size + 1)))) (step.Binary d (operation.Difference size) left right)
+      (FindsTwo left right StayInside)
+  difference_does d size left right f q first ts ls node r o e h inside =
       let limit : ℕ = suc (suc (suc (counting size + 1))) in
       begins p lay limit _ (step.Binary d (operation.Difference size) left right) f q first node ts ls r o e h
       (λ all own segment sp ps rr m st y stage low stands code.
@@ -92,22 +88,16 @@ module _ (p : Setting) (lay : IsLaid p) where
       (omega arith) (omega arith)
       (λ v w pc pc2 st2 y2 has_a has_b code2 stage2.
       let r1 : ℕ → ℕ = set_reg (set_reg (set_reg (set_reg rr 0 pc) 12 v) 0 pc2) 13 w in
-      differs p lay Q 1 r.state r.next (level f q first ws ∷ ls) all own segment sp sp ps x f end (keep p.ir fn d 12) size a b
+      differs p lay lie Q 1 r.state r.next (level f q first ws ∷ ls) all own segment sp sp ps x f end (keep p.ir fn d 12) size a b
       n.count
-      r1 m st2 y2 low stage2 diff (close a b us ws g k) has_a has_b code2
+      r1 m st2 y2 low stage2 diff (inside a b us ws g k) has_a has_b code2
       (λ r2 m2 st3 y3 in_r12 spares code3 stage3.
       keeps_last p lay 0 f q (q + 1) first d 12 (r2 12) (temporary.Value c) ws ls r all own segment sp ps r2 m2 st3 y3 stage3 low
       code3 depth room refl (subst (λ (z : Value). HasCode (value_code alive z) (r2 12)) n.value in_r12)))))))
 
-  pub beside_difference_does : (d size : ℕ) (f q first : ℕ) (ts : List Temporary) (ls : List Frame) (node : ℕ) (r : Run)
-      (o : Ideal)
-      → slice_get (function_of p f).steps q ≡ Some (record { node = node; kind = step.Beside d (operation.Difference size) })
-      → StandsAt p (At f q first ts ls) r o
-      → ((a b : Value) (ws : List Temporary) → ts ≡ temporary.Value b ∷ temporary.Value a ∷ ws
-      → AreClose (nat_eq size 1) size a b)
-      → Follows p (suc (suc (suc (counting size + 1))))
-      (act p.ir p.readings node (step.Beside d (operation.Difference size)) f q first ts ls r) o
-  beside_difference_does d size f q first ts ls node r o e h close =
+  pub beside_difference_does : (d size : ℕ)
+      → DoesWhere p (suc (suc (suc (counting size + 1)))) (step.Beside d (operation.Difference size)) (FindsTop StayInside)
+  beside_difference_does d size f q first ts ls node r o e h inside =
       let limit : ℕ = suc (suc (suc (counting size + 1))) in
       begins p lay limit _ (step.Beside d (operation.Difference size)) f q first node ts ls r o e h
       (λ all own segment sp ps rr m st y stage low stands code.
@@ -134,8 +124,8 @@ module _ (p : Setting) (lay : IsLaid p) where
       (falls p lay (step.Beside d (operation.Difference size)) f q node (rr 0) tt stands code) (omega arith) (omega arith)
       (λ v w pc pc2 st2 y2 has_a has_b code2 stage2.
       let r1 : ℕ → ℕ = set_reg (set_reg (set_reg (set_reg rr 0 pc) 12 v) 0 pc2) 13 w in
-      differs p lay Q 1 r.state r.next (level f q first (temporary.Value a ∷ ws) ∷ ls) all own segment sp sp ps x f end
-      (keep p.ir fn (suc d) 12) size a b n.count r1 m st2 y2 low stage2 diff (close a b ws top) has_a has_b code2
+      differs p lay lie Q 1 r.state r.next (level f q first (temporary.Value a ∷ ws) ∷ ls) all own segment sp sp ps x f end
+      (keep p.ir fn (suc d) 12) size a b n.count r1 m st2 y2 low stage2 diff (inside a b ws top) has_a has_b code2
       (λ r2 m2 st3 y3 in_r12 spares code3 stage3.
       keeps_last p lay 0 f q (q + 1) first (suc d) 12 (r2 12) (temporary.Value c) (temporary.Value a ∷ ws) ls r all own segment
       sp ps

@@ -43,6 +43,7 @@ use Rattle.ir.specs.declared.form.Operand.{Operand}
 use Rattle.ir.specs.declared.form.StepKind.TheVariants as step
 use Rattle.ir.specs.Machine.{known}
 use Rattle.ir.specs.Table.{taken}
+use Rattle.ir.specs.Typed.{IsWide}
 use Rattle.matching.specs.Matches.{Placed, address_of, pointer_code, placed}
 use Rattle.select430.specs.Frames.{word, temporaries_at, local_at, global_at, offset_or, address_or}
 use Rattle.select430.specs.declared.part.Part.TheVariants.{Do}
@@ -57,9 +58,9 @@ use Rattle.steps430.proofs.Reading.{local_found, global_found}
 use Rattle.steps430.proofs.Values.{IsNumber, Own, Generated, number_is, brings_number}
 use Rattle.steps430.proofs.Operands.{brings_top}
 use Rattle.steps430.proofs.Steps.{begins, falls, keeps_last}
-use Rattle.steps430.proofs.Plain.{room_of}
+use Rattle.steps430.proofs.Plain.{room_of, placing}
 use Rattle.steps430.proofs.Passing.{passes}
-use Rattle.steps430.proofs.Words.{IsWide, wrapped_type}
+use Rattle.steps430.proofs.Words.{wrapped_type}
 use Rattle.steps430.proofs.Sums.{result}
 
 -- ---- an instruction with a number
@@ -266,21 +267,28 @@ module _ (p : Setting) (lay : IsLaid p) where
   convert_fit alive t (Int z) c w wide k has =
       subst (λ (y : Value). HasCode (value_code alive y) w) (same_value (Int (as_type t z)) c k) (has
       ∙ sym (wrapped_type t z wide))
-  convert_fit alive t (Pointer n o) c w wide k has =
+  convert_fit alive int.Char (Pointer n o) c w wide k has = absurd wide
+  convert_fit alive int.Int (Pointer n o) c w wide k has =
       subst (λ (y : Value). HasCode (value_code alive y) w) (same_value (Pointer n o) c k) has
-  convert_fit alive t Null c w wide k has = subst (λ (y : Value). HasCode (value_code alive y) w) (same_value Null c k) has
+  convert_fit alive int.UInt (Pointer n o) c w wide k has =
+      subst (λ (y : Value). HasCode (value_code alive y) w) (same_value (Pointer n o) c k) has
+  convert_fit alive int.Char Null c w wide k has = absurd wide
+  convert_fit alive int.Int Null c w wide k has =
+      subst (λ (y : Value). HasCode (value_code alive y) w) (same_value Null c k) has
+  convert_fit alive int.UInt Null c w wide k has =
+      subst (λ (y : Value). HasCode (value_code alive y) w) (same_value Null c k) has
   convert_fit alive t Undefined c w wide k has = absurd (differ k)
     where
       differ : wrong 11 ≡ fine c → ⊥
       differ j = cc
 
-  pub convert_int_does : (d : ℕ) (x : Operand) → DoesStep p 2 (step.Convert d int.Int x)
+  pub convert_int_does : (d : ℕ) (x : Operand) → DoesStep p (placing x) (step.Convert d int.Int x)
   convert_int_does d x f q first ts ls node r t e h =
-      begins p lay 2 _ (step.Convert d int.Int x) f q first node ts ls r t e h
+      begins p lay (placing x) _ (step.Convert d int.Int x) f q first node ts ls r t e h
       (λ all own segment sp ps rr m st y stage low stands code.
-      operand_follows p 2 _ node first x ts _ r (λ v us g.
-      depth_follows p 2 _ d us _ r (λ depth.
-      given_follows p 2 _ node (converted int.Int v) _ r (λ c ok.
+      operand_follows p (placing x) _ node first x ts _ r (λ v us g.
+      depth_follows p (placing x) _ d us _ r (λ depth.
+      given_follows p (placing x) _ node (converted int.Int v) _ r (λ c ok.
       let fn : IrFunction = function_of p f in
       let room = room_of (temporaries_at fn) d (taken x) 1 fn.frame stands.room (omega arith) in
       passes p lay f q (q + 1) first ls r all own segment sp ps rr m st y x d ts v us (temporary.Value c) stage low
@@ -288,13 +296,13 @@ module _ (p : Setting) (lay : IsLaid p) where
       (not_missing int.Int v c ok) depth stands.named room
       (λ w has. convert_fit (placed p.core (kept r.state)) int.Int v c w tt ok has)))))
 
-  pub convert_unsigned_does : (d : ℕ) (x : Operand) → DoesStep p 2 (step.Convert d int.UInt x)
+  pub convert_unsigned_does : (d : ℕ) (x : Operand) → DoesStep p (placing x) (step.Convert d int.UInt x)
   convert_unsigned_does d x f q first ts ls node r t e h =
-      begins p lay 2 _ (step.Convert d int.UInt x) f q first node ts ls r t e h
+      begins p lay (placing x) _ (step.Convert d int.UInt x) f q first node ts ls r t e h
       (λ all own segment sp ps rr m st y stage low stands code.
-      operand_follows p 2 _ node first x ts _ r (λ v us g.
-      depth_follows p 2 _ d us _ r (λ depth.
-      given_follows p 2 _ node (converted int.UInt v) _ r (λ c ok.
+      operand_follows p (placing x) _ node first x ts _ r (λ v us g.
+      depth_follows p (placing x) _ d us _ r (λ depth.
+      given_follows p (placing x) _ node (converted int.UInt v) _ r (λ c ok.
       let fn : IrFunction = function_of p f in
       let room = room_of (temporaries_at fn) d (taken x) 1 fn.frame stands.room (omega arith) in
       passes p lay f q (q + 1) first ls r all own segment sp ps rr m st y x d ts v us (temporary.Value c) stage low

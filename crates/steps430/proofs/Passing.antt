@@ -35,7 +35,7 @@ use Rattle.steps430.proofs.Moves.{From, level, with_level}
 use Rattle.steps430.proofs.Outcomes.{Gives, OfTop, operand_follows, depth_follows, given_follows}
 use Rattle.steps430.proofs.Operands.{brings_value}
 use Rattle.steps430.proofs.Steps.{begins, falls, stands_now, keeps_last, left_by}
-use Rattle.steps430.proofs.Plain.{room_of}
+use Rattle.steps430.proofs.Plain.{room_of, placing}
 
 -- the topmost temporary is taken as another one, which its word fits as well
 held_as : (all : Cells) (a : ℕ) (d2 : Bool) (o o2 : Option ℕ) → ((w : ℕ) → HasCode o w → HasCode o2 w) → IsHeld all a true o
@@ -59,8 +59,8 @@ turned all alive fn a t t2 us defined fit h =
 module _ (p : Setting) (lay : IsLaid p) (f q q2 first : ℕ) (ls : List Frame) (r : Run) (all own : Cells) (segment sp : ℕ)
     (ps rr m : ℕ → ℕ) (st : Bytes) (y : Meter) where
   -- what a value becomes that is put on the stack
-  abbrev Passes : Operand → (d : ℕ) → Type 0
-  Passes x d =
+  abbrev Passes : (limit : ℕ) → Operand → (d : ℕ) → Type 0
+  Passes limit x d =
       (ts : List Temporary) (v : Value) (us : List Temporary) (t2 : Temporary)
       → Stage p r.state r.next (level f q first ts ∷ ls) all own segment sp sp ps rr m st → segment_start segment + 4 ≤ sp
       → From p f (rr 0) (put p.ir (function_of p f) x d) (step_at p f q2) → Gives r.state first x ts v us → is_missing v ≡ false
@@ -68,12 +68,12 @@ module _ (p : Setting) (lay : IsLaid p) (f q q2 first : ℕ) (ls : List Frame) (
       → temporaries_at (function_of p f) + 2 * d + 2 ≤ (function_of p f).frame
       → ((w : ℕ) → HasCode (value_code (placed p.core (kept r.state)) v) w
       → HasCode (temporary_code (placed p.core (kept r.state)) t2) w)
-      → Leads 2 (at segment ps rr m st (outside r.state.marks (drop r.used p.readings)) y) (StandsAt p (At f q2 first
+      → Leads limit (at segment ps rr m st (outside r.state.marks (drop r.used p.readings)) y) (StandsAt p (At f q2 first
       (t2 ∷ us) ls) r)
 
   passes_on : (x : Operand) (d : ℕ)
       → put p.ir (function_of p f) x d ≡ bring p.ir (function_of p f) x d 12 ++ keep p.ir (function_of p f) d 12
-      → Passes x d
+      → Passes 2 x d
   passes_on x d same ts v us t2 stage low code g there depth named room fit =
       let fn : IrFunction = function_of p f in
       let end : ℕ = step_at p f q2 in
@@ -87,14 +87,14 @@ module _ (p : Setting) (lay : IsLaid p) (f q q2 first : ℕ) (ls : List Frame) (
       (left_by p r.state r.next all own segment sp sp ps (set_reg (set_reg rr 0 pc) 12 w) m st2 f q first x ts v us ls g stage2)
       low code2 depth room refl (fit w has))
 
-  passes_top : (d : ℕ) → Passes operand.Temporary d
+  passes_top : (d : ℕ) → Passes 0 operand.Temporary d
   passes_top d ts v us t2 stage low code OfTop there depth named room fit =
-      stands_now p lay 2 f q q2 first ts (t2 ∷ us) ls r all own segment sp ps rr m st y
+      stands_now p lay 0 f q q2 first ts (t2 ∷ us) ls r all own segment sp ps rr m st y
       (with_level p r.state r.next all own segment sp sp ps f q q2 first (temporary.Value v ∷ us) (t2 ∷ us) ls rr m st
       (λ a k. turned all (placed p.core (kept r.state)) (function_of p f) a (temporary.Value v) t2 us
       (ap not there) fit k) stage) low code
 
-  pub passes : (x : Operand) (d : ℕ) → Passes x d
+  pub passes : (x : Operand) (d : ℕ) → Passes (placing x) x d
   passes operand.Temporary d = passes_top d
   passes (operand.Constant z) d = passes_on (operand.Constant z) d refl
   passes operand.Null d = passes_on operand.Null d refl
@@ -136,12 +136,13 @@ is_there Undefined l e = no_place 11 l e
 is_there (Int z) l e = no_place 0 l e
 
 module _ (p : Setting) (lay : IsLaid p) where
-  pub follow_does : (d : ℕ) (x : Operand) → DoesStep p 2 (step.Follow d x)
+  pub follow_does : (d : ℕ) (x : Operand) → DoesStep p (placing x) (step.Follow d x)
   follow_does d x f q first ts ls node r t e h =
-      begins p lay 2 _ (step.Follow d x) f q first node ts ls r t e h (λ all own segment sp ps rr m st y stage low stands code.
-      operand_follows p 2 _ node first x ts _ r (λ v us g.
-      depth_follows p 2 _ d us _ r (λ depth.
-      given_follows p 2 _ node (pointed v) _ r (λ l is.
+      begins p lay (placing x) _ (step.Follow d x) f q first node ts ls r t e h
+      (λ all own segment sp ps rr m st y stage low stands code.
+      operand_follows p (placing x) _ node first x ts _ r (λ v us g.
+      depth_follows p (placing x) _ d us _ r (λ depth.
+      given_follows p (placing x) _ node (pointed v) _ r (λ l is.
       let fn : IrFunction = function_of p f in
       let room = room_of (temporaries_at fn) d (taken x) 1 fn.frame stands.room (omega arith) in
       passes p lay f q (q + 1) first ls r all own segment sp ps rr m st y x d ts v us (temporary.Place l) stage low

@@ -39,6 +39,11 @@ use Rattle.steps430.proofs.Steps.{begins, falls, stands_now, keeps_last, left_by
 pub room_of : (base d a b frame : ℕ) → base + 2 * (d + max a b) ≤ frame → 1 ≤ b → base + 2 * d + 2 ≤ frame
 room_of base d a b frame h one = let k : b ≤ max a b = omega arith in omega arith
 
+-- how many instructions it takes to put an operand on the stack: the topmost temporary is there already
+abbrev pub placing : Operand → ℕ
+placing operand.Temporary = 0
+placing x = 2
+
 module _ (p : Setting) (lay : IsLaid p) where
   -- a value that is not on the stack yet
   put_value : (d : ℕ) (x : Operand)
@@ -66,13 +71,13 @@ module _ (p : Setting) (lay : IsLaid p) where
       low code2 depth room refl has))))
 
   -- the topmost temporary is there already
-  put_top : (d : ℕ) → DoesStep p 2 (step.Put d operand.Temporary)
+  put_top : (d : ℕ) → DoesStep p 0 (step.Put d operand.Temporary)
   put_top d f q first ts ls node r t e h =
-      begins p lay 2 _ (step.Put d operand.Temporary) f q first node ts ls r t e h
+      begins p lay 0 _ (step.Put d operand.Temporary) f q first node ts ls r t e h
       (λ all own segment sp ps rr m st y stage low stands code.
-      operand_follows p 2 _ node first operand.Temporary ts _ r (λ v us g.
-      depth_follows p 2 _ d us _ r (λ depth.
-      stands_now p lay 2 f q (q + 1) first ts (temporary.Value v ∷ us) ls r all own segment sp ps rr m st y
+      operand_follows p 0 _ node first operand.Temporary ts _ r (λ v us g.
+      depth_follows p 0 _ d us _ r (λ depth.
+      stands_now p lay 0 f q (q + 1) first ts (temporary.Value v ∷ us) ls r all own segment sp ps rr m st y
       (put_there ts v us g all own segment sp ps rr m st stage) low
       (falls p lay (step.Put d operand.Temporary) f q node (rr 0) tt stands code))))
     where
@@ -83,7 +88,7 @@ module _ (p : Setting) (lay : IsLaid p) where
       put_there xs v us OfTop all own segment sp ps rr m st stage =
           with_level p r.state r.next all own segment sp sp ps f q (q + 1) first xs xs ls rr m st (λ a k. k) stage
 
-  pub put_does : (d : ℕ) (x : Operand) → DoesStep p 2 (step.Put d x)
+  pub put_does : (d : ℕ) (x : Operand) → DoesStep p (placing x) (step.Put d x)
   put_does d operand.Temporary = put_top d
   put_does d (operand.Constant z) = put_value d (operand.Constant z) (λ fn. refl) there
     where

@@ -1,11 +1,10 @@
 -- Sums of a pointer and a number, as places and as values.
 use Rattle.std.proofs.Common.{◌≡◌, ℕ, suc, ◌+◌, ◌*◌, ◌≤◌, refl, sym, ap, ◌∙◌, subst, arith, Bool, true, false, List, ◌∷◌, ◌++◌, length, drop, Option, Some, Result, Ok, Err, if◌then◌else◌}
 use Rattle.std.proofs.lemmas.List.{append_assoc}
-use Rattle.std.specs.Prelude.{slice_get}
 use Rattle.base16.specs.Board.{segment_start}
 use Rattle.base16.specs.declared.integer.IntType.{IntType}
 use Rattle.core430.specs.Registers.{set_reg}
-use Rattle.ideal430.specs.Ideal.{Ideal, Meter}
+use Rattle.ideal430.specs.Ideal.{Meter}
 use Rattle.ideal430.specs.Settled.{Bytes}
 use Rattle.c_run.specs.Actions.{kept}
 use Rattle.c_run.specs.Runs.{Run}
@@ -24,9 +23,8 @@ use Rattle.ir.specs.declared.control.Control.TheVariants.{At}
 use Rattle.ir.specs.declared.form.IrFunction.{IrFunction}
 use Rattle.ir.specs.declared.form.Operand.{Operand}
 use Rattle.ir.specs.declared.form.Operation.TheVariants as operation
-use Rattle.ir.specs.declared.form.StepKind.{StepKind}
 use Rattle.ir.specs.declared.form.StepKind.TheVariants as step
-use Rattle.ir.specs.Machine.{act, computed, numbered_as}
+use Rattle.ir.specs.Machine.{computed, numbered_as}
 use Rattle.ir.specs.Table.{taken}
 use Rattle.matching.specs.Matches.{Placed, placed}
 use Rattle.select430.specs.Frames.{temporaries_at}
@@ -35,28 +33,14 @@ use Rattle.select430.specs.Code.{bring, keep, moved}
 use Rattle.steps430.specs.Setting.{Setting, function_of, step_at, IsNamed, operand_bases, IsLaid}
 use Rattle.steps430.specs.Holds.{is_missing, HasCode, value_code, temporary_code}
 use Rattle.steps430.specs.Standing.{StandsAt, Stage}
-use Rattle.steps430.specs.Follows.{Follows}
+use Rattle.steps430.specs.Follows.{DoesStep}
 use Rattle.steps430.proofs.Moves.{From, level}
 use Rattle.steps430.proofs.Outcomes.{Gives, depth_follows, asked_follows}
 use Rattle.steps430.proofs.Steps.{begins, falls, keeps_last}
 use Rattle.steps430.proofs.Plain.{room_of}
 use Rattle.steps430.proofs.Pairs.{operands_follow, brings_two}
 use Rattle.steps430.proofs.Scaled.{scaling}
-use Rattle.steps430.proofs.Sliding.{PointsTo, is_pointer, IsSum, number_right, number_left, numbered_code, numbered_missing, numbered_pointer, slides}
-
--- ---- a step whose two values are as the types of the form say
-
--- one that is said to be a number is no pointer
-abbrev pub AsSaid : Bool → (left right : Value) → Type 0
-AsSaid true left right = is_pointer left ≡ false
-AsSaid false left right = is_pointer right ≡ false
-
-abbrev pub DoesTwo : (p : Setting) (limit : ℕ) → StepKind → (left right : Operand) → (Value → Value → Type 0) → Type 0
-DoesTwo p limit k left right IsFine = (f q first : ℕ) (ts : List Temporary) (below : List Frame) (node : ℕ) (r : Run) (t : Ideal)
-    → slice_get (function_of p f).steps q ≡ Some (record { node = node; kind = k })
-    → StandsAt p (At f q first ts below) r t
-    → ((a b : Value) (us ws : List Temporary) → Gives r.state first right ts b us → Gives r.state first left us a ws → IsFine a b)
-    → Follows p limit (act p.ir p.readings node k f q first ts below r) t
+use Rattle.steps430.proofs.Sliding.{PointsTo, IsSum, sum_with_is, numbered_code, numbered_missing, slides}
 
 -- ---- where the pointer and the number are
 
@@ -98,13 +82,12 @@ code_other true alive a b v w h k = h
 code_other false alive a b v w h k = k
 
 pub sum_is : (swapped : Bool) (s : State) (minus : Bool) (size : ℕ) (t u : Option IntType) (a b : Value) (l : Location)
-    → AsSaid swapped a b → sum_of s minus size (numbered_as t a) (numbered_as u b) ≡ Ok l
+    → sum_of s swapped minus size (numbered_as t a) (numbered_as u b) ≡ Ok l
     → IsSum s minus size (one_of swapped (numbered_as t a) (numbered_as u b))
     (one_of swapped (numbered_as u b) (numbered_as t a)) l
-sum_is true s minus size t u a b l said e =
-    number_left s minus size (numbered_as t a) (numbered_as u b) l (numbered_pointer t a ∙ said) e
-sum_is false s minus size t u a b l said e =
-    number_right s minus size (numbered_as t a) (numbered_as u b) l (numbered_pointer u b ∙ said) e
+unfolding sum_of
+sum_is true s minus size t u a b l e = sum_with_is s minus size (numbered_as u b) (numbered_as t a) l e
+sum_is false s minus size t u a b l e = sum_with_is s minus size (numbered_as t a) (numbered_as u b) l e
 
 -- both are there
 pub both_there : (swapped : Bool) (s : State) (minus : Bool) (size : ℕ) (x y : Value) (l : Location)
@@ -185,27 +168,26 @@ pointer_to_is (Err n) c e = absurd (differ e)
 
 module _ (p : Setting) (lay : IsLaid p) where
   pub sum_does : (d size : ℕ) (t u : IntType) (swapped : Bool) (left right : Operand)
-      → DoesTwo p (suc (suc (scaling false size + 2))) (step.Sum d size t u swapped left right) left right (AsSaid swapped)
-  sum_does d size t u swapped left right f q first ts ls node r o e h said =
+      → DoesStep p (suc (suc (scaling false size + 2))) (step.Sum d size t u swapped left right)
+  sum_does d size t u swapped left right f q first ts ls node r o e h =
       let limit : ℕ = suc (suc (scaling false size + 2)) in
       begins p lay limit _ (step.Sum d size t u swapped left right) f q first node ts ls r o e h
       (λ all own segment sp ps rr m st y stage low stands code.
       operands_follow p limit _ node first left right ts _ r (λ a b us ws g k.
       depth_follows p limit _ d ws _ r (λ depth.
-      asked_follows p limit _ node (λ s. sum_of s false size (numbered t a) (numbered u b)) _ r (λ l ok.
+      asked_follows p limit _ node (λ s. sum_of s swapped false size (numbered t a) (numbered u b)) _ r (λ l ok.
       let fn : IrFunction = function_of p f in
       let room = room_of (temporaries_at fn) d (taken left + taken right) 1 fn.frame stands.room (omega arith) in
       sums p lay f q (q + 1) first ls r all own segment sp ps rr m st y swapped false size (Some t) (Some u) left right ts us ws
       a b d
       0 l (temporary.Place l) stage low g k depth stands.named room
       (falls p lay (step.Sum d size t u swapped left right) f q node (rr 0) tt stands code)
-      (sum_is swapped r.state false size (Some t) (Some u) a b l (said a b us ws g k) ok)
+      (sum_is swapped r.state false size (Some t) (Some u) a b l ok)
       (λ w points. points.place)))))
 
   pub plus_does : (d : ℕ) (minus : Bool) (size : ℕ) (t u : Option IntType) (swapped : Bool) (left right : Operand)
-      → DoesTwo p (suc (suc (scaling minus size + 2))) (step.Binary d (operation.PointerPlus minus size t u swapped) left right)
-      left right (AsSaid swapped)
-  plus_does d minus size t u swapped left right f q first ts ls node r o e h said =
+      → DoesStep p (suc (suc (scaling minus size + 2))) (step.Binary d (operation.PointerPlus minus size t u swapped) left right)
+  plus_does d minus size t u swapped left right f q first ts ls node r o e h =
       let limit : ℕ = suc (suc (scaling minus size + 2)) in
       begins p lay limit _ (step.Binary d (operation.PointerPlus minus size t u swapped) left right) f q first node ts ls r o e h
       (λ all own segment sp ps rr m st y stage low stands code.
@@ -215,7 +197,7 @@ module _ (p : Setting) (lay : IsLaid p) where
       let fn : IrFunction = function_of p f in
       let alive : List Placed = placed p.core (kept r.state) in
       let room = room_of (temporaries_at fn) d (taken left + taken right) 1 fn.frame stands.room (omega arith) in
-      let to = pointer_to_is (sum_of r.state minus size (numbered_as t a) (numbered_as u b)) c ok in
+      let to = pointer_to_is (sum_of r.state swapped minus size (numbered_as t a) (numbered_as u b)) c ok in
       let whole = falls p lay (step.Binary d (operation.PointerPlus minus size t u swapped) left right) f q node (rr 0) tt
       stands code in
       sums p lay f q (q + 1) first ls r all own segment sp ps rr m st y swapped minus size t u left right ts us ws a b d
@@ -223,5 +205,5 @@ module _ (p : Setting) (lay : IsLaid p) where
       (subst (λ (parts : List Part). From p f (rr 0) parts (step_at p f (q + 1)))
       (append_assoc (bring p.ir fn left d (if swapped then 12 else 15))
       (bring p.ir fn right (d + taken left) (if swapped then 15 else 12)) (moved minus size ++ keep p.ir fn d 12)) whole)
-      (sum_is swapped r.state minus size t u a b to.location (said a b us ws g k) to.is)
+      (sum_is swapped r.state minus size t u a b to.location to.is)
       (λ w points. subst (λ (v : Value). HasCode (value_code alive v) w) to.pointer points.value)))))

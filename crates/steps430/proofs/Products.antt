@@ -13,7 +13,8 @@ use Rattle.rt430.specs.declared.words.Helper.TheVariants.{Mul16, Udiv16, Umod16,
 use Rattle.rt430.specs.Operators.{value, HasValue, halved}
 use Rattle.c_values.specs.Operators.{as_type, number, settled, binary, is_zero, is_count, count_of, shifted_right, shifted_left, if_settled}
 use Rattle.c_values.specs.Values.{right_type}
-use Rattle.steps430.proofs.Words.{IsWide, wrapped_number, wrapped_settled, wrapped_small}
+use Rattle.ir.specs.Typed.{IsWide}
+use Rattle.steps430.proofs.Words.{wrapped_number, wrapped_settled, wrapped_small}
 
 -- ---- products modulo 2^16
 

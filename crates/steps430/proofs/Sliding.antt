@@ -1,5 +1,6 @@
 -- A pointer is moved by a number of elements.
-use Rattle.std.proofs.Common.{◌≡◌, ℕ, suc, ◌+◌, ◌%◌, ◌≤◌, refl, sym, ap, ◌∙◌, subst, arith, Bool, true, false, List, ◌++◌, Option, Some, None, Result, Ok, Err, if◌then◌else◌}
+use Rattle.std.proofs.Common.{◌≡◌, ℕ, suc, ◌+◌, ◌%◌, ◌<◌, ◌≤◌, refl, sym, ap, ◌∙◌, subst, arith, Bool, true, false, List, ◌++◌, Option, Some, None, Result, Ok, Err, if◌then◌else◌}
+use Rattle.std.proofs.lemmas.Bool.Decides.{nat_tests}
 use Rattle.std.specs.Prelude.{ℤ, pos, negsuc, ◌+ℤ◌, nat_le, nat_lt}
 use Rattle.base16.specs.Board.{segment_start}
 use Rattle.base16.specs.Integer.{wrapped}
@@ -9,7 +10,7 @@ use Rattle.ideal430.specs.Settled.{Bytes}
 use Rattle.c_run.specs.Actions.{kept}
 use Rattle.c_values.specs.Objects.{object_of}
 use Rattle.c_values.specs.Operators.{number}
-use Rattle.c_values.specs.Pointers.{at as place_at, moved, within, end_of, scaled as scaled_number, sum_of, pointer_at}
+use Rattle.c_values.specs.Pointers.{at as place_at, gone, within, end_of, moved_from, moved, scaled as scaled_number, sum_with, pointer_at}
 use Rattle.c_values.specs.declared.state.Object.{Object}
 use Rattle.c_values.specs.declared.state.State.{State}
 use Rattle.c_values.specs.declared.value.Location.{Location}
@@ -87,20 +88,41 @@ points_to alive n offset w h = record { value = h; place = from (nat_lt offset 6
     from true = h
     from false = tt
 
-pub moved_points : (alive : List Placed) (s : State) (n offset : ℕ) (by : ℤ) (l : Location) (a v : ℕ)
-    → moved s (place_at n offset) by ≡ Ok l
-    → HasCode (pointer_code (address_of alive n) offset) a → v ≡ (wrapped by + a + 0) % 65536 → PointsTo alive l v
+-- what is moved has an offset of its own: none comes back from the one that stands for all great offsets
+pub record IsNear (s : State) (l : Location) (by : ℤ) (to : Location) : Type 0 where
+  pub near : l.offset < 65536
+  pub moves : moved_from s (pos l.offset +ℤ by) l.object ≡ Ok to
+
+beyond : (n : ℕ) (o : Option Object) (to : Location) → within n (pos 65536) o ≡ Ok to → ⊥
+beyond n None to e = no_place 6 to e
+beyond n (Some o) to e = from (nat_le 65536 (end_of o)) refl e
+  where
+    from : (b : Bool) → nat_le 65536 (end_of o) ≡ b → (if b then fine (place_at n 65536) else wrong 4) ≡ fine to → ⊥
+    from true h k = let l : 65536 ≤ end_of o = grind (arith, nat_tests) in omega arith
+    from false h k = no_place 4 to k
+
+too_far : (s : State) (x : Option ℕ) (to : Location) → moved_from s (pos 65536) x ≡ Ok to → ⊥
+too_far s None to e = no_place 12 to e
+too_far s (Some n) to e = beyond n (object_of s n) to e
+
+pub moved_near : (s : State) (l : Location) (by : ℤ) (to : Location) → moved s l by ≡ Ok to → IsNear s l by to
 unfolding moved
-moved_points alive s n offset by l a v e has is =
+moved_near s l by to e = from (nat_lt l.offset 65536) refl e
+  where
+    from : (b : Bool) → nat_lt l.offset 65536 ≡ b
+        → moved_from s (if b then pos l.offset +ℤ by else pos 65536) l.object ≡ fine to → IsNear s l by to
+    from true h k = let few : l.offset < 65536 = grind (arith, nat_tests) in record { near = few; moves = k }
+    from false h k = absurd (too_far s l.object to k)
+
+pub within_points : (alive : List Placed) (s : State) (n offset : ℕ) (by : ℤ) (l : Location) (a v : ℕ)
+    → within n (pos offset +ℤ by) (object_of s n) ≡ Ok l
+    → HasCode (pointer_code (address_of alive n) offset) a → v ≡ (wrapped by + a + 0) % 65536 → PointsTo alive l v
+within_points alive s n offset by l a v e has is =
     let h = within_is n (pos offset +ℤ by) (object_of s n) l e in
     subst (λ (x : Location). PointsTo alive x v) h.is
     (points_to alive n h.offset v (sum_code (address_of alive n) offset h.offset a v by h.sum has is))
 
 -- ---- sums
-
-abbrev pub is_pointer : Value → Bool
-is_pointer (Pointer n o) = true
-is_pointer v = false
 
 -- a pointer and a number have a sum
 pub record IsSum (s : State) (minus : Bool) (size : ℕ) (pointer number : Value) (l : Location) : Type 0 where
@@ -111,47 +133,22 @@ pub record IsSum (s : State) (minus : Bool) (size : ℕ) (pointer number : Value
   pub is_number : number ≡ Int count
   pub moves : moved s (place_at object offset) (scaled_number minus count size) ≡ Ok l
 
-never : {A : Type 0} → true ≡ false → A
-never e = absurd (differ e)
-  where
-    differ : true ≡ false → ⊥
-    differ k = cc
-
-pub number_right : (s : State) (minus : Bool) (size : ℕ) (x y : Value) (l : Location) → is_pointer y ≡ false
-    → sum_of s minus size x y ≡ Ok l → IsSum s minus size x y l
-unfolding sum_of moved
-number_right s minus size x (Pointer n o) l none e = never none
-number_right s minus size (Int i) (Int j) l none e = no_place _ l e
-number_right s minus size (Int i) Null l none e = no_place _ l e
-number_right s minus size (Int i) Undefined l none e = no_place _ l e
-number_right s minus size (Pointer n o) (Int j) l none e =
+-- what has a sum is a pointer and a number
+pub sum_with_is : (s : State) (minus : Bool) (size : ℕ) (x y : Value) (l : Location) → sum_with s minus size x y ≡ Ok l
+    → IsSum s minus size x y l
+unfolding moved
+sum_with_is s minus size (Pointer n o) (Int j) l e =
     record { object = n; offset = o; count = j; is_pointer = refl; is_number = refl; moves = e }
-number_right s minus size (Pointer n o) Null l none e = no_place _ l e
-number_right s minus size (Pointer n o) Undefined l none e = no_place _ l e
-number_right s minus size Null (Int j) l none e = no_place _ l e
-number_right s minus size Null Null l none e = no_place _ l e
-number_right s minus size Null Undefined l none e = no_place _ l e
-number_right s minus size Undefined (Int j) l none e = no_place _ l e
-number_right s minus size Undefined Null l none e = no_place _ l e
-number_right s minus size Undefined Undefined l none e = no_place _ l e
-
-pub number_left : (s : State) (minus : Bool) (size : ℕ) (x y : Value) (l : Location) → is_pointer x ≡ false
-    → sum_of s minus size x y ≡ Ok l → IsSum s minus size y x l
-unfolding sum_of moved
-number_left s minus size (Pointer n o) y l none e = never none
-number_left s minus size (Int i) (Int j) l none e = no_place _ l e
-number_left s minus size (Int i) Null l none e = no_place _ l e
-number_left s minus size (Int i) Undefined l none e = no_place _ l e
-number_left s minus size (Int i) (Pointer n o) l none e =
-    record { object = n; offset = o; count = i; is_pointer = refl; is_number = refl; moves = e }
-number_left s minus size Null (Int j) l none e = no_place _ l e
-number_left s minus size Null Null l none e = no_place _ l e
-number_left s minus size Null (Pointer n o) l none e = no_place _ l e
-number_left s minus size Null Undefined l none e = no_place _ l e
-number_left s minus size Undefined (Int j) l none e = no_place _ l e
-number_left s minus size Undefined Null l none e = no_place _ l e
-number_left s minus size Undefined (Pointer n o) l none e = no_place _ l e
-number_left s minus size Undefined Undefined l none e = no_place _ l e
+sum_with_is s minus size (Int i) (Int j) l e = no_place _ l e
+sum_with_is s minus size Null (Int j) l e = no_place _ l e
+sum_with_is s minus size Undefined (Int j) l e = no_place _ l e
+sum_with_is s minus size x (Pointer n o) l e = no_place _ l e
+sum_with_is s minus size x Null l e = no_place _ l e
+sum_with_is s minus size x Undefined l e = from (gone s x) e
+  where
+    from : (b : Bool) → (if b then wrong 6 else wrong 11) ≡ fine l → IsSum s minus size x Undefined l
+    from true k = no_place 6 l k
+    from false k = no_place 11 l k
 
 -- ---- values as their types say
 
@@ -169,13 +166,6 @@ numbered_missing (Some t) (Int z) = refl
 numbered_missing (Some t) (Pointer n o) = refl
 numbered_missing (Some t) Null = refl
 numbered_missing (Some t) Undefined = refl
-
-pub numbered_pointer : (t : Option IntType) (v : Value) → is_pointer (numbered_as t v) ≡ is_pointer v
-numbered_pointer None v = refl
-numbered_pointer (Some t) (Int z) = refl
-numbered_pointer (Some t) (Pointer n o) = refl
-numbered_pointer (Some t) Null = refl
-numbered_pointer (Some t) Undefined = refl
 
 -- ---- code
 
@@ -199,5 +189,6 @@ module _ (p : Setting) (lay : IsLaid p) (Q : Ideal → Type 0) (n : ℕ) (s : St
       moves p lay Q s next frames all own segment base sp ps x f end minus size sum.count more n r m st y low h is code
       (λ r2 m2 st2 y2 in_r12 same spares code2 stage2.
       go r2 m2 st2 y2
-      (moved_points alive s sum.object sum.offset (scaled_number minus sum.count size) l (r 15) (r2 12) sum.moves from in_r12)
+      (within_points alive s sum.object sum.offset (scaled_number minus sum.count size) l (r 15) (r2 12)
+      (moved_near s (place_at sum.object sum.offset) (scaled_number minus sum.count size) l sum.moves).moves from in_r12)
       spares code2 stage2)

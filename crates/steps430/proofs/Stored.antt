@@ -316,7 +316,7 @@ same_int x y e = cc
 char_whole : (n : ℕ) → number_code kind.Char (pos (n % 256)) ≡ wrapped (pos (n % 256))
 char_whole n = omega arith
 
-fitted_whole : (k : Kind) (v w : Value) (z : ℤ) → fitted k v ≡ Ok w → w ≡ Int z → number_code k z ≡ wrapped z
+pub fitted_whole : (k : Kind) (v w : Value) (z : ℤ) → fitted k v ≡ Ok w → w ≡ Int z → number_code k z ≡ wrapped z
 unfolding fitted as_type
 fitted_whole kind.Int v w z e is = refl
 fitted_whole kind.UInt v w z e is = refl
@@ -423,10 +423,11 @@ cell_here f a b k kd code (Some c) is kind has =
 
 module _ (p : Setting) (lay : IsLaid p) (s : State) (next : ℕ) (frames : List Frame) (all own : Cells) (segment base sp : ℕ)
     (ps r m r2 m2 : ℕ → ℕ) (st st2 : Bytes) where
-  -- a store to a scalar that is accessed
-  pub stage_stored : (n offset : ℕ) (k : Kind) (old v w : Value) (code : ℕ)
+  -- a scalar that is accessed is set to a value that stands whole in it, or to none
+  pub stage_set : (n offset : ℕ) (k : Kind) (old w : Value) (code : ℕ)
       (h : Stage p s next frames all own segment base sp ps r m st)
-      (e : accessed s (place_at n offset) k ≡ Ok old) → fitted k v ≡ Ok w → HasCode (encoded (placed p.core (kept s)) k w) code
+      (e : accessed s (place_at n offset) k ≡ Ok old) → ((z : ℤ) → w ≡ Int z → number_code k z ≡ wrapped z)
+      → HasCode (encoded (placed p.core (kept s)) k w) code
       → r2 1 ≡ sp → AreWords r2
       → Facts p.code p.low p.high
       (set_cell all ((lay.alone next s n offset k old h.made e).address + offset) (cell_of k (Some code))) m2 st2
@@ -435,7 +436,7 @@ module _ (p : Setting) (lay : IsLaid p) (s : State) (next : ℕ) (frames : List 
       (set_cell own ((lay.alone next s n offset k old h.made e).address + offset) (cell_of k (Some code)))
       segment base sp ps r2 m2 st2
   unfolding with_scalar
-  stage_stored n offset k old v w code h e fit has stack wide facts = record {
+  stage_set n offset k old w code h e fits has stack wide facts = record {
     ground = h.ground;
     shape = shape_by segment sp ps all a (wide_kind k) there.0 code h.shape (h.part a (cell_of k there.0) there.1);
     facts = facts;
@@ -533,7 +534,21 @@ module _ (p : Setting) (lay : IsLaid p) (s : State) (next : ℕ) (frames : List 
           every_stored n alone.address offset k w (λ b c. IsWhole c) (λ b c. IsWhole c)
           (λ b c is kind z. record {
             same = λ i j. subst
-                (λ (q : Kind). number_code q i ≡ wrapped i) (sym kind) (fitted_whole k v w i fit j);
+                (λ (q : Kind). number_code q i ≡ wrapped i) (sym kind) (fits i j);
           })
           (λ b c other z. record { same = z.same })
           alive alone.apart h.whole
+
+  -- a store to a scalar that is accessed
+  pub stage_stored : (n offset : ℕ) (k : Kind) (old v w : Value) (code : ℕ)
+      (h : Stage p s next frames all own segment base sp ps r m st)
+      (e : accessed s (place_at n offset) k ≡ Ok old) → fitted k v ≡ Ok w → HasCode (encoded (placed p.core (kept s)) k w) code
+      → r2 1 ≡ sp → AreWords r2
+      → Facts p.code p.low p.high
+      (set_cell all ((lay.alone next s n offset k old h.made e).address + offset) (cell_of k (Some code))) m2 st2
+      → Stage p (with_scalar n offset w s) next frames
+      (set_cell all ((lay.alone next s n offset k old h.made e).address + offset) (cell_of k (Some code)))
+      (set_cell own ((lay.alone next s n offset k old h.made e).address + offset) (cell_of k (Some code)))
+      segment base sp ps r2 m2 st2
+  stage_stored n offset k old v w code h e fit has stack wide facts =
+      stage_set n offset k old w code h e (λ z is. fitted_whole k v w z fit is) has stack wide facts

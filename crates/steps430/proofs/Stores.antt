@@ -1,7 +1,7 @@
 -- Stores: a scalar gets what a register holds, and what a store leaves as a temporary.
 use Rattle.std.proofs.Common.{◌≡◌, ◌≢◌, ℕ, zero, suc, ◌+◌, ◌*◌, ◌%◌, ◌<◌, ◌≤◌, refl, sym, ap, ◌∙◌, subst, arith, Bool, true, false, not, ◌⊎◌, inl, inr, List, [], ◌∷◌, ◌++◌, length, drop, reverse, max, Option, Some, Result, Ok, Err}
 use Rattle.std.proofs.lemmas.Bool.{ne_eqb}
-use Rattle.std.specs.Prelude.{pos, slice_get}
+use Rattle.std.specs.Prelude.{ℤ, pos, slice_get}
 use Rattle.base16.specs.Board.{segment_start, segment_top, stack_start, stack_end, data_start, data_end}
 use Rattle.base16.specs.Integer.{wrapped, signed}
 use Rattle.base16.specs.declared.image.Kind.{Kind}
@@ -24,13 +24,13 @@ use Rattle.c_run.specs.Runs.{Run, Action, ◌>>=◌, ◌>>◌, and_then, pure, g
 use Rattle.c_values.specs.Objects.{with_scalar, accessed}
 use Rattle.c_values.specs.Operators.{as_type}
 use Rattle.c_values.specs.Pointers.{at as place_at}
-use Rattle.c_values.specs.Values.{fitted, if_accessed}
+use Rattle.c_values.specs.Values.{fitted, fit, or_missing, if_accessed, present}
 use Rattle.c_values.specs.declared.state.State.{State}
 use Rattle.c_values.specs.declared.value.Value.{Value}
 use Rattle.c_values.specs.declared.value.Value.TheVariants.{Int, Pointer, Null, Undefined}
 use Rattle.cells430.specs.Cells.{Cell, Word, Cells, set_cell, Live, OfOutput, OfData, OfFrame, OfOlder, Facts}
 use Rattle.cells430.specs.Stretch.{Course, outside, at, Leads}
-use Rattle.cells430.proofs.Lift.{sets, stores, stores_byte}
+use Rattle.cells430.proofs.Lift.{sets, stores, stores_byte, leads_weaker}
 use Rattle.ir.specs.declared.control.Control.{Control}
 use Rattle.ir.specs.declared.control.Control.TheVariants.{At}
 use Rattle.ir.specs.declared.control.Frame.{Frame}
@@ -48,7 +48,7 @@ use Rattle.ir.specs.declared.form.Target.TheVariants as target
 use Rattle.ir.specs.Machine.{act, on_before, kept as left_values}
 use Rattle.ir.specs.Table.{taken, before_taken, left_by as left_of}
 use Rattle.matching.specs.Covering.{cell_by, cell_of}
-use Rattle.matching.specs.Matches.{Placed, placed, encoded}
+use Rattle.matching.specs.Matches.{Placed, placed, number_code, encoded}
 use Rattle.matching.proofs.Storing.{placed_stored, codes_stay}
 use Rattle.select430.specs.Frames.{temporaries_at, local_at, locals_end, offset_or}
 use Rattle.select430.specs.declared.part.Part.{Part}
@@ -59,13 +59,13 @@ use Rattle.steps430.specs.Holds.{is_missing, HasCode, value_code}
 use Rattle.steps430.specs.Standing.{StandsAt, Stage}
 use Rattle.steps430.specs.Follows.{Follows, DoesStep}
 use Rattle.steps430.proofs.Moves.{From, from_do, level, top_of, with_regs, with_level}
-use Rattle.steps430.proofs.Outcomes.{operand_follows, depth_follows, value_follows}
+use Rattle.steps430.proofs.Outcomes.{operand_follows, depth_follows, value_follows, given_follows}
 use Rattle.steps430.proofs.Reading.{local_stands}
 use Rattle.steps430.proofs.Values.{narrow_kind}
 use Rattle.steps430.proofs.Operands.{brings_value}
 use Rattle.steps430.proofs.Plain.{room_of}
 use Rattle.steps430.proofs.Steps.{begins, falls, stands_now, keeps_last, left_by}
-use Rattle.steps430.proofs.Stored.{accessed_cell, stage_stored}
+use Rattle.steps430.proofs.Stored.{fitted_whole, accessed_cell, stage_stored}
 use Rattle.steps430.proofs.Words.{wrapped_signed, wrapped_small}
 
 -- ---- what is stored
@@ -139,6 +139,25 @@ stored_code alive kind.Pointer Null w c e h =
     subst (λ (x : Value). HasCode (encoded alive kind.Pointer x) c × HasCode (value_code alive x) c) (same_value Null w e) (h, h)
 stored_code alive kind.Pointer Undefined w c e h = never 11 w e
 
+-- a parameter gets what fits it, and else no value
+pub fit_whole : (k : Kind) (v : Value) (z : ℤ) → fit k v ≡ Int z → number_code k z ≡ wrapped z
+fit_whole k v z is = from (fitted k v) refl is
+  where
+    missing : Undefined ≡ Int z → ⊥
+    missing e = cc
+
+    from : (x : Result Value ℕ) → fitted k v ≡ x → or_missing x ≡ Int z → number_code k z ≡ wrapped z
+    from (Ok w) e i = fitted_whole k v w z e i
+    from (Err n) e i = absurd (missing i)
+
+pub fit_code : (alive : List Placed) (k : Kind) (v : Value) (c : ℕ) → HasCode (value_code alive v) c
+    → HasCode (encoded alive k (fit k v)) (low (is_char k) c)
+fit_code alive k v c h = from (fitted k v) refl
+  where
+    from : (x : Result Value ℕ) → fitted k v ≡ x → HasCode (encoded alive k (or_missing x)) (low (is_char k) c)
+    from (Ok w) e = (stored_code alive k v w c e h).0
+    from (Err n) e = tt
+
 -- codes are the same in the state with a scalar set
 pub code_after : (p : Setting) (s : State) (n offset : ℕ) (x w : Value) (c : ℕ)
     → HasCode (value_code (placed p.core (kept s)) w) c
@@ -149,28 +168,38 @@ code_after p s n offset x w c h =
 
 -- ---- what an action of a store comes to
 
--- what stands below a value that is stored
+-- what stands below a value that is stored: the value from before is there, if it is kept
 pub data IsBelow : Keep → Value → (left us : List Temporary) → Type 0 where
   OfNothing : {ws : List Temporary} → IsBelow keeping.Nothing Undefined ws ws
   OfStored : {ws : List Temporary} → IsBelow keeping.Stored Undefined ws ws
-  OfBefore : {b : Value} {ws : List Temporary} → IsBelow keeping.Before b ws (temporary.Value b ∷ ws)
+  OfBefore : {b : Value} {ws : List Temporary} → is_missing b ≡ false → IsBelow keeping.Before b ws (temporary.Value b ∷ ws)
 
 pub below_length : (keeps : Keep) (b : Value) (ws us : List Temporary) → IsBelow keeps b ws us
     → length us ≡ length ws + before_taken keeps
 below_length keeps b ws us OfNothing = omega arith
 below_length keeps b ws us OfStored = omega arith
-below_length keeps b ws us OfBefore = omega arith
+below_length keeps b ws us (OfBefore there) = omega arith
+
+-- a value that is present is there, and is passed on as it is
+present_is : (b w : Value) → present b ≡ Ok w → (is_missing b ≡ false) × (b ≡ w)
+present_is (Int z) w e = (refl, same_value (Int z) w e)
+present_is (Pointer n o) w e = (refl, same_value (Pointer n o) w e)
+present_is Null w e = (refl, same_value Null w e)
+present_is Undefined w e = never 11 w e
 
 module _ (p : Setting) (limit : ℕ) (t : Ideal) where
-  pub before_follows : (keeps : Keep) (us : List Temporary) (go : Value → List Temporary → Action Control) (r : Run)
+  pub before_follows : (node : ℕ) (keeps : Keep) (us : List Temporary) (go : Value → List Temporary → Action Control) (r : Run)
       → ((b : Value) (ws : List Temporary) → IsBelow keeps b ws us → Follows p limit (go b ws r) t)
-      → Follows p limit (on_before keeps us go r) t
+      → Follows p limit (on_before node keeps us go r) t
   unfolding on_before
-  before_follows keeping.Nothing us go r more = more Undefined us OfNothing
-  before_follows keeping.Stored us go r more = more Undefined us OfStored
-  before_follows keeping.Before us go r more =
-      value_follows p limit t us go r (λ b ws e. more b ws
-      (subst (λ (xs : List Temporary). IsBelow keeping.Before b ws xs) (sym e) OfBefore))
+  before_follows node keeping.Nothing us go r more = more Undefined us OfNothing
+  before_follows node keeping.Stored us go r more = more Undefined us OfStored
+  before_follows node keeping.Before us go r more =
+      value_follows p limit t us _ r (λ b ws e.
+      given_follows p limit t node (present b) _ r (λ w is.
+      let there = present_is b w is in
+      subst (λ (z : Value). Follows p limit (go z ws r) t) there.1
+      (more b ws (subst (λ (xs : List Temporary). IsBelow keeping.Before b ws xs) (sym e) (OfBefore there.0)))))
 
   pub store_follows : (node : ℕ) (n offset : ℕ) (k : Kind) (v : Value) (go : Value → Action Control) (r : Run)
       → ((old w : Value) → accessed r.state (place_at n offset) k ≡ Ok old → fitted k v ≡ Ok w
@@ -261,6 +290,11 @@ module _ (p : Setting) (Q : Ideal → Type 0) where
       (InRegister g) r2
       h.facts h.words here byte_in_register byte_to_register effect tt tt pc stack
       (λ st2 y2 facts wide. more st2 y2 (with_regs p s next all own segment base sp ps frames r m r2 st st2 stack wide facts h))
+
+-- how many instructions it takes to keep what a store leaves
+abbrev pub keeping_few : Keep → ℕ
+keeping_few keeping.Nothing = 0
+keeping_few keeps = 2
 
 -- where steps have a value that they keep
 pub data ForValue : ℕ → Type 0 where
@@ -366,29 +400,31 @@ module _ (p : Setting) (lay : IsLaid p) (f q q2 first : ℕ) (ls : List Frame) (
       → From p f (rr 0) (kept_code p.ir (function_of p f) keeps k (target.Known of offset) d g) (step_at p f q2) → length ws ≡ d
       → temporaries_at (function_of p f) + 2 * (d + max c (left_of keeps)) ≤ (function_of p f).frame
       → HasCode (value_code (placed p.core (kept r.state)) w) (low (is_char k) (rr g))
-      → Leads 2 (at segment ps rr m st (outside r.state.marks (drop r.used p.readings)) y)
+      → Leads (keeping_few keeps) (at segment ps rr m st (outside r.state.marks (drop r.used p.readings)) y)
       (StandsAt p (At f q2 first (left_values keeps w b ws) ls) r)
   ends_kept d g k of offset keeps b w ws us c is OfNothing stage start code depth room has =
-      stands_now p lay 2 f q q2 first us us ls r all own segment sp ps rr m st y
+      stands_now p lay 0 f q q2 first us us ls r all own segment sp ps rr m st y
       (with_level p r.state r.next all own segment sp sp ps f q q2 first us us ls rr m st (λ a z. z) stage) start code
   ends_kept d g k of offset keeps b w ws us c is OfStored stage start code depth room has =
       ends_stored d g k w us is stage start code depth
       (room_of (temporaries_at (function_of p f)) d c 1 (function_of p f).frame room (omega arith)) has
-  ends_kept d g k of offset keeps b w ws us c is OfBefore stage start code depth room has =
+  ends_kept d g k of offset keeps b w ws us c is (OfBefore there) stage start code depth room has =
       stands_now p lay 2 f q q2 first us us ls r all own segment sp ps rr m st y
       (with_level p r.state r.next all own segment sp sp ps f q q2 first us us ls rr m st (λ a z. z) stage) start code
 
 module _ (p : Setting) (lay : IsLaid p) where
-  pub local_does : (d n offset : ℕ) (k : Kind) (x : Operand) (keeps : Keep) → DoesStep p 4 (step.StoreLocal d n offset k x keeps)
+  pub local_does : (d n offset : ℕ) (k : Kind) (x : Operand) (keeps : Keep)
+      → DoesStep p (keeping_few keeps + 2) (step.StoreLocal d n offset k x keeps)
   unfolding with_scalar
   local_does d n offset k x keeps f q first ts ls node r t e h =
-      begins p lay 4 (act p.ir p.readings node (step.StoreLocal d n offset k x keeps) f q first ts ls r)
+      let limit : ℕ = keeping_few keeps + 2 in
+      begins p lay limit (act p.ir p.readings node (step.StoreLocal d n offset k x keeps) f q first ts ls r)
       (step.StoreLocal d n offset k x keeps) f q first node ts ls r t e h
       (λ all own segment sp ps rr m st y stage start stands code.
-      operand_follows p 4 _ node first x ts _ r (λ v us g.
-      before_follows p 4 _ keeps us _ r (λ b ws below.
-      depth_follows p 4 _ d ws _ r (λ depth.
-      store_follows p 4 _ node (first + n) offset k v _ r (λ old w there fit.
+      operand_follows p limit _ node first x ts _ r (λ v us g.
+      before_follows p limit _ node keeps us _ r (λ b ws below.
+      depth_follows p limit _ d ws _ r (λ depth.
+      store_follows p limit _ node (first + n) offset k v _ r (λ old w there fit.
       let fn : IrFunction = function_of p f in
       let end : ℕ = step_at p f (q + 1) in
       let r3 : Run = record r { state = with_scalar (first + n) offset w r.state } in
@@ -397,19 +433,20 @@ module _ (p : Setting) (lay : IsLaid p) where
       let deep : length us ≡ d + before_taken keeps = below_length keeps b ws us below
       ∙ ap (λ (i : ℕ). i + before_taken keeps) depth in
       let rest : List Part = kept_code p.ir fn keeps k (target.Known (base.Local n) offset) d 12 in
-      brings_value p lay Q r.state r.next all own segment sp ps rr m st way y f q first ls 3 x ts v us
+      leads_weaker (suc (suc (keeping_few keeps))) limit (at segment ps rr m st way y) Q Q (omega arith) (λ u z. z)
+      (brings_value p lay Q r.state r.next all own segment sp ps rr m st way y f q first ls (suc (keeping_few keeps)) x ts v us
       (d + before_taken keeps) 12 end
       (Do (Two Mov (is_char k) (Reg 12) (ToIndexed 1 (local_at fn n offset))) ∷ rest) stage g
       (fitted_there k v w fit) deep stands.named.1
       (falls p lay (step.StoreLocal d n offset k x keeps) f q node (rr 0) tt stands code) (omega arith)
       (λ c pc st2 y2 has code2 stage2.
       let r1 : ℕ → ℕ = set_reg (set_reg rr 0 pc) 12 c in
-      writes_local p lay Q 2 r.state r.next all own segment sp ps r1 m st2 way y2 f q first us ls n offset k old v w end rest
-      (left_by p r.state r.next all own segment sp sp ps r1 m st2 f q first x ts v us ls g stage2) stands.named.0 there fit has
-      code2
+      writes_local p lay Q (keeping_few keeps) r.state r.next all own segment sp ps r1 m st2 way y2 f q first us ls n offset k
+      old v w end rest (left_by p r.state r.next all own segment sp sp ps r1 m st2 f q first x ts v us ls g stage2)
+      stands.named.0 there fit has code2
       (λ all2 own2 m2 st3 y3 code3 stage3.
       ends_kept p lay f q (q + 1) first ls r3 all2 own2 segment sp ps (set_reg r1 0 (pc + 4)) m2 st3 y3 d 12 k
       (base.Local n) offset keeps
       b w ws us (before_taken keeps + taken x) Twelve below stage3 start code3 depth stands.room
       (code_after p r.state (first + n) offset w w (low (is_char k) c)
-      (stored_code (placed p.core (kept r.state)) k v w c fit has).1))))))))
+      (stored_code (placed p.core (kept r.state)) k v w c fit has).1)))))))))

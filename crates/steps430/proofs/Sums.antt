@@ -36,6 +36,7 @@ use Rattle.ir.specs.declared.form.Operation.TheVariants as operation
 use Rattle.ir.specs.declared.form.StepKind.TheVariants as step
 use Rattle.ir.specs.Machine.{computed}
 use Rattle.ir.specs.Table.{taken}
+use Rattle.ir.specs.Typed.{IsWide}
 use Rattle.matching.specs.Matches.{Placed, placed}
 use Rattle.select430.specs.Frames.{temporaries_at}
 use Rattle.select430.specs.declared.part.Part.{Part}
@@ -50,7 +51,7 @@ use Rattle.steps430.proofs.Outcomes.{depth_follows, asked_follows}
 use Rattle.steps430.proofs.Steps.{begins, falls, keeps_last}
 use Rattle.steps430.proofs.Plain.{room_of}
 use Rattle.steps430.proofs.Pairs.{operands_follow, brings_two}
-use Rattle.steps430.proofs.Words.{IsWide, wrapped_number, wrapped_type, wrapped_settled, wrapped_sum, wrapped_difference}
+use Rattle.steps430.proofs.Words.{wrapped_number, wrapped_type, wrapped_settled, wrapped_sum, wrapped_difference}
 
 -- ---- two numbers that are computed with
 

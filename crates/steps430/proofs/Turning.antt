@@ -26,6 +26,7 @@ use Rattle.ir.specs.declared.form.IrFunction.{IrFunction}
 use Rattle.ir.specs.declared.form.Operand.{Operand}
 use Rattle.ir.specs.declared.form.StepKind.TheVariants as step
 use Rattle.ir.specs.Table.{taken}
+use Rattle.ir.specs.Typed.{IsWide}
 use Rattle.matching.specs.Matches.{Placed, placed}
 use Rattle.select430.specs.Frames.{temporaries_at}
 use Rattle.select430.specs.declared.part.Part.TheVariants.{Do}
@@ -40,12 +41,10 @@ use Rattle.steps430.proofs.Values.{number_is}
 use Rattle.steps430.proofs.Operands.{brings_value}
 use Rattle.steps430.proofs.Steps.{begins, falls, keeps_last, left_by}
 use Rattle.steps430.proofs.Plain.{room_of}
-use Rattle.steps430.proofs.Words.{IsWide, wrapped_small, wrapped_number, wrapped_type, wrapped_settled, wrapped_difference}
+use Rattle.steps430.proofs.Words.{wrapped_small, wrapped_number, wrapped_type, wrapped_settled, wrapped_difference}
 use Rattle.steps430.proofs.Numbers.{Turns, operates_number}
 use Rattle.steps430.proofs.Stores.{narrows}
 use Rattle.steps430.proofs.Scaled.{negates}
-use Rattle.steps430.proofs.Sliding.{is_pointer}
-use Rattle.steps430.proofs.Finding.{DoesWhere, FindsOne}
 
 -- ---- one number that is computed with
 
@@ -182,30 +181,23 @@ module _ (p : Setting) (lay : IsLaid p) where
   char_there : (v c : Value) → converted int.Char v ≡ Ok c → is_missing v ≡ false
   unfolding converted
   char_there (Int z) c e = refl
-  char_there (Pointer n offset) c e = refl
-  char_there Null c e = refl
+  char_there (Pointer n offset) c e = no_value 0 c e
+  char_there Null c e = no_value 0 c e
   char_there Undefined c e = no_value 11 c e
 
-  char_fit : (alive : List Placed) (v c : Value) (w : ℕ) → is_pointer v ≡ false → converted int.Char v ≡ Ok c
+  char_fit : (alive : List Placed) (v c : Value) (w : ℕ) → converted int.Char v ≡ Ok c
       → HasCode (value_code alive v) w → HasCode (value_code alive c) (w % 256)
   unfolding converted as_type
-  char_fit alive (Int z) c w none e has =
+  char_fit alive (Int z) c w e has =
       let small = wrapped_small z in
       subst (λ (k : Value). HasCode (value_code alive k) (w % 256)) (same_value (Int (as_type int.Char z)) c e)
       (let same : w % 256 ≡ wrapped z % 256 % 65536 = omega arith in same)
-  char_fit alive (Pointer n offset) c w none e has = absurd (differ none)
-    where
-      differ : true ≡ false → ⊥
-      differ k = cc
-  char_fit alive Null c w none e has =
-      subst (λ (k : Value). HasCode (value_code alive k) (w % 256)) (same_value Null c e)
-      (ap (λ (k : ℕ). k % 256) has)
-  char_fit alive Undefined c w none e has = no_value 11 c e
+  char_fit alive (Pointer n offset) c w e has = no_value 0 c e
+  char_fit alive Null c w e has = no_value 0 c e
+  char_fit alive Undefined c w e has = no_value 11 c e
 
-  -- what it finds is no pointer
-  pub convert_char_does : (d : ℕ) (x : Operand)
-      → DoesWhere p 3 (step.Convert d int.Char x) (FindsOne x (λ s v. is_pointer v ≡ false))
-  convert_char_does d x f q first ts ls node r u e h none =
+  pub convert_char_does : (d : ℕ) (x : Operand) → DoesStep p 3 (step.Convert d int.Char x)
+  convert_char_does d x f q first ts ls node r u e h =
       begins p lay 3 _ (step.Convert d int.Char x) f q first node ts ls r u e h
       (λ all own segment sp ps rr m st y stage low stands code.
       operand_follows p 3 _ node first x ts _ r (λ v us g.
@@ -228,4 +220,4 @@ module _ (p : Setting) (lay : IsLaid p) where
       let r2 : ℕ → ℕ = set_reg (set_reg r1 0 (pc + 2)) 12 (w % 256) in
       keeps_last p lay 0 f q (q + 1) first d 12 (w % 256) (temporary.Value c) us ls r all own segment sp ps r2 m st3 y3
       (left_by p r.state r.next all own segment sp sp ps r2 m st3 f q first x ts v us ls g stage3) low i.1 depth room refl
-      (char_fit alive v c w (none v us g) ok has)))))))
+      (char_fit alive v c w ok has)))))))

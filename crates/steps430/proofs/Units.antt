@@ -20,7 +20,7 @@ use Rattle.steps430.specs.Holds.{is_missing, HasCode, value_code}
 use Rattle.steps430.specs.Follows.{DoesStep}
 use Rattle.steps430.proofs.Outcomes.{operand_follows, depth_follows, asked_follows}
 use Rattle.steps430.proofs.Steps.{begins, falls}
-use Rattle.steps430.proofs.Plain.{room_of}
+use Rattle.steps430.proofs.Plain.{room_of, placing}
 use Rattle.steps430.proofs.Passing.{passes}
 use Rattle.steps430.proofs.Words.{wrapped_number}
 
@@ -55,13 +55,14 @@ plus_fit alive s t (Pointer n o) c w k has = no_value 0 c k
 plus_fit alive s t Null c w k has = no_value 0 c k
 plus_fit alive s t Undefined c w k has = no_value 11 c k
 
-pub plus_does : (p : Setting) (lay : IsLaid p) (d : ℕ) (t : IntType) (x : Operand) → DoesStep p 2 (step.Unary d un.Plus t x)
+pub plus_does : (p : Setting) (lay : IsLaid p) (d : ℕ) (t : IntType) (x : Operand)
+    → DoesStep p (placing x) (step.Unary d un.Plus t x)
 plus_does p lay d t x f q first ts ls node r u e h =
-    begins p lay 2 _ (step.Unary d un.Plus t x) f q first node ts ls r u e h
+    begins p lay (placing x) _ (step.Unary d un.Plus t x) f q first node ts ls r u e h
     (λ all own segment sp ps rr m st y stage low stands code.
-    operand_follows p 2 _ node first x ts _ r (λ v us g.
-    depth_follows p 2 _ d us _ r (λ depth.
-    asked_follows p 2 _ node (λ s. operated_one s un.Plus t v) _ r (λ c ok.
+    operand_follows p (placing x) _ node first x ts _ r (λ v us g.
+    depth_follows p (placing x) _ d us _ r (λ depth.
+    asked_follows p (placing x) _ node (λ s. operated_one s un.Plus t v) _ r (λ c ok.
     let fn : IrFunction = function_of p f in
     let room = room_of (temporaries_at fn) d (taken x) 1 fn.frame stands.room (omega arith) in
     passes p lay f q (q + 1) first ls r all own segment sp ps rr m st y x d ts v us (temporary.Value c) stage low

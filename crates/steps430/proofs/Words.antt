@@ -6,6 +6,7 @@ use Rattle.base16.specs.Integer.{wrapped, signed}
 use Rattle.base16.specs.declared.integer.IntType.{IntType}
 use Rattle.base16.specs.declared.integer.IntType.TheVariants as int
 use Rattle.c_values.specs.Operators.{as_type, number, fits_int, settled}
+use Rattle.ir.specs.Typed.{IsWide}
 
 -- a number is a word but for some times 2^16
 pub record Same (z : ℤ) (w : ℕ) : Type 0 where
@@ -71,11 +72,6 @@ unfolding number
 wrapped_number int.Int v = wrapped_signed (wrapped v) (wrapped_small v)
 wrapped_number int.UInt v = let small = wrapped_small v in omega arith
 wrapped_number int.Char v = let small = wrapped_small v in omega arith
-
--- int and unsigned keep all of a word
-abbrev pub IsWide : IntType → Type 0
-IsWide int.Char = ⊥
-IsWide t = Unit {0}
 
 pub wrapped_type : (t : IntType) (v : ℤ) → IsWide t → wrapped (as_type t v) ≡ wrapped v
 unfolding as_type

@@ -1,12 +1,10 @@
 -- What it means that the code of the entry of a function, and that behind a call, does its step. Where the objects of calls lie.
-use Rattle.std.specs.Prelude.{◌≡◌, ℕ, ◌+◌, ◌<◌, ◌≤◌, List, [], ◌∷◌, length, take, Option, Some, None, slice_get, Ok}
+use Rattle.std.specs.Prelude.{◌≡◌, ℕ, ◌+◌, ◌<◌, ◌≤◌, List, [], ◌∷◌, length, Option, Some, None, slice_get}
 use Rattle.base16.specs.Board.{data_start, data_end}
 use Rattle.base16.specs.Placement.{frame_below}
-use Rattle.base16.specs.declared.image.Kind.{Kind}
 use Rattle.c_run.specs.Actions.{kept, left_call, top_of, with_call}
 use Rattle.c_run.specs.Making.{fresh_objects}
 use Rattle.c_run.specs.Runs.{Run}
-use Rattle.c_values.specs.Values.{fitted}
 use Rattle.c_values.specs.declared.state.Call.{Call}
 use Rattle.c_values.specs.declared.state.Saved.{Saved}
 use Rattle.c_values.specs.declared.state.State.{State}
@@ -24,10 +22,10 @@ use Rattle.ir.specs.declared.control.Control.TheVariants.{Calling, Returning}
 use Rattle.ir.specs.declared.control.Temporary.{Temporary}
 use Rattle.ir.specs.declared.control.Temporary.TheVariants as temporary
 use Rattle.ir.specs.declared.form.IrFunction.{IrFunction}
-use Rattle.ir.specs.declared.form.IrLocal.{IrLocal}
 use Rattle.ir.specs.declared.form.StepKind.{StepKind}
 use Rattle.ir.specs.declared.form.StepKind.TheVariants as step
-use Rattle.ir.specs.Machine.{objects_of, param_kinds, act_enter, act_result}
+use Rattle.ir.specs.Machine.{objects_of, act_enter, act_result}
+use Rattle.ir.specs.Typed.{IsTyped}
 use Rattle.matching.specs.Covering.{cell_of}
 use Rattle.matching.specs.Laid.{IsMade}
 use Rattle.matching.specs.Matches.{Placed, placed_from, local_address, offset_in, placed}
@@ -59,36 +57,14 @@ pub record AreKnown (core : Core) (next : ℕ) (s : State) (frames : List Frame)
   pub scalars : Every (λ (q : Placed). Every (λ (c : Cell). IsKnownValue next c.value) q.object.cells) (placed core (kept s))
   pub temporaries : AreKnownFrames next frames
 
--- ---- parameters
-
--- a parameter is one scalar
-abbrev pub IsSingle : IrLocal → Type 0
-IsSingle l = (k : Kind) × (l.scalars ≡ record { offset = 0; kind = k } ∷ [])
-
--- a function has so many parameters, its first locals
-pub record HasParameters (fn : IrFunction) (n : ℕ) : Type 0 where
-  pub count : fn.params ≡ n
-  pub among : n ≤ length fn.locals
-  pub single : Every IsSingle (take n fn.locals)
-
--- where a step enters a function with so many parameters, it has as many
-abbrev pub HaveParameters : Setting → Type 0
-HaveParameters p = (f n node : ℕ) → slice_get (function_of p f).steps 0 ≡ Some (record { node = node; kind = step.Enter n })
-    → HasParameters (function_of p f) n
-
--- each argument fits the scalar that it becomes
-abbrev pub AllFit : List Kind → List Value → Type 0
-AllFit [] vs = Unit {0}
-AllFit (k ∷ ks) [] = Unit {0}
-AllFit (k ∷ ks) (v ∷ vs) = ((w : Value) × (fitted k v ≡ Ok w)) × AllFit ks vs
-
 -- ---- steps
 
--- the code at the entry of a function enters it, where the arguments fit
+-- the code at the entry of a function, which is typed, enters it where all pointers are to objects that came to life
 abbrev pub DoesEnter : Setting → (limit : ℕ) → StepKind → Type 0
 DoesEnter p limit k = (f d : ℕ) (args : List Value) (below : List Frame) (node : ℕ) (r : Run) (t : Ideal)
+    → IsTyped (function_of p f) k
     → slice_get (function_of p f).steps 0 ≡ Some (record { node = node; kind = k })
-    → AreKnown p.core r.next r.state (calling args below) → AllFit (param_kinds (function_of p f)) args
+    → AreKnown p.core r.next r.state (calling args below)
     → StandsAt p (Calling f d args below) r t
     → Follows p limit (act_enter p.ir p.readings k f (function_of p f) args below r) t
 

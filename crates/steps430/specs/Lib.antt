@@ -7,3 +7,4 @@ pub mod Outside
 pub mod Calls
 pub mod Whole
 pub mod Lying
+pub mod Inside

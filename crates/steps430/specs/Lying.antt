@@ -18,6 +18,10 @@ abbrev pub StaysInside : State → Value → Type 0
 StaysInside s (Pointer n offset) = (o : Object) → object_of s n ≡ Some o → offset ≤ end_of o
 StaysInside s v = Unit {0}
 
+-- both do
+abbrev pub StayInside : State → Value → Value → Type 0
+StayInside s a b = StaysInside s a × StaysInside s b
+
 -- The objects of a state as a run makes it lie whole, and no two share a byte.
 pub record ObjectsLie (p : Setting) : Type 0 where
   pub whole : (next : ℕ) (s : Saved) → IsMade p.core next s → Every LiesWhole (placed p.core s)

@@ -15,7 +15,6 @@ use Rattle.core_tree.specs.declared.program.Core.{Core}
 use Rattle.isa430.specs.declared.instr.Instr.{Instr}
 use Rattle.isa430.specs.Table.{size_of}
 use Rattle.run430.specs.Code.{Placed}
-use Rattle.rt430.specs.declared.words.Helper.{Helper}
 use Rattle.ir.specs.declared.form.Ir.{Ir}
 use Rattle.ir.specs.declared.form.IrFunction.{IrFunction}
 use Rattle.ir.specs.declared.form.Step.{Step}
