@@ -1,7 +1,6 @@
 -- The objects of a call lie in its frame below the temporaries, and a call's objects come to life as the form has them.
-use Rattle.std.proofs.Common.{◌≡◌, ℕ, zero, suc, ◌+◌, ◌<◌, ◌≤◌, refl, sym, ap, ◌∙◌, subst, arith, ◌⊎◌, inl, inr, List, [], ◌∷◌, ◌++◌, length, map, Option, Some, None}
-use Rattle.std.proofs.lemmas.Option.{slice_get_within, slice_get_cases}
-use Rattle.std.specs.Prelude.{slice_get, get_or}
+use Rattle.std.proofs.Common.{◌≡◌, ℕ, zero, suc, ◌+◌, ◌<◌, ◌≤◌, refl, sym, ap, ◌∙◌, subst, arith, List, [], ◌∷◌, ◌++◌, length, map, Option, Some, None}
+use Rattle.std.specs.Prelude.{slice_get}
 use Rattle.base16.specs.Placement.{frame_below}
 use Rattle.c_meaning.specs.After.{objects_of}
 use Rattle.c_run.specs.Actions.{kept, top_of, with_call}
@@ -30,35 +29,11 @@ use Rattle.matching.proofs.Making.{entered_made}
 use Rattle.select430.specs.Frames.{kind_bytes, scalars_end, locals_end, temporaries_at, offset_or}
 use Rattle.steps430.specs.Calls.{LieIn, new_call}
 use Rattle.steps430.specs.Setting.{function_at, or_none}
+use Rattle.follows430.proofs.Served.{served}
 use Rattle.codegen.proofs.Frames.{same_width, scalars_within}
-use Rattle.codegen.proofs.Lists.{same_some}
 use Rattle.codegen.proofs.Objects.{some_width}
 
--- ---- functions of the form and of the program
-
-pub record IsServed (core : Core) (ir : Ir) (g : ℕ) (fn : IrFunction) : Type 0 where
-  pub function : Function
-  pub is : slice_get core.functions g ≡ Some function
-  pub serves : ServesFunction core function fn
-
-pub served : (core : Core) (ir : Ir) → Serves core ir → (g : ℕ) (fn : IrFunction) → slice_get ir.functions g ≡ Some fn
-    → IsServed core ir g fn
-served core ir serves g fn e = from (slice_get_cases core.functions g).1
-  where
-    few : g < length ir.functions
-    few = slice_get_within ir.functions g fn e
-
-    from : ((x : Function) × (g < length core.functions) × (slice_get core.functions g ≡ Some x)
-        × (get_or core.functions g x ≡ x))
-        ⊎ ((length core.functions ≤ g) × (slice_get core.functions g ≡ None)) → IsServed core ir g fn
-    from (inl h) =
-        let f = serves.functions g h.0 h.2 in
-        record {
-          function = h.0;
-          is = h.2;
-          serves = subst (λ (y : IrFunction). ServesFunction core h.0 y) (same_some f.0 fn (sym f.1 ∙ e)) f.2;
-        }
-    from (inr h) = let many = serves.many in let past = h.0 in let here = few in absurd (omega arith)
+-- ---- functions of the form
 
 pub at_number : (ir : Ir) (g : ℕ) (fn : IrFunction) → slice_get ir.functions g ≡ Some fn → function_at ir g ≡ fn
 at_number ir g fn e = ap or_none e

@@ -42,7 +42,7 @@ use Rattle.select430.proofs.Owning.{fit_row}
 use Rattle.codegen.specs.Laid.{IsProgram}
 use Rattle.codegen.specs.Program.{start_items, parts_call, functions_call, called_of, all_helpers, routines_of, routine_items, rows_words, table_items, back_items, items_of, labels_end}
 use Rattle.codegen.proofs.Called.{or_first, or_second, placed_for}
-use Rattle.codegen.proofs.Calls.{served}
+use Rattle.follows430.proofs.Served.{served}
 use Rattle.codegen.proofs.Lists.{same_some, none_some, some_at}
 use Rattle.codegen.proofs.Rising.{LabelsRise, place_there, Standing, standing_left, standing_right, has_place, function_standing, of_function_standing, routine_standing, table_standing, program_rises}
 use Rattle.codegen.proofs.Routines.{words_long}

@@ -48,7 +48,8 @@ use Rattle.codegen.specs.Laid.{setting_of, IsProgram}
 use Rattle.codegen.proofs.Assembled.{assembled, short_code}
 use Rattle.codegen.proofs.Bounds.{step_within}
 use Rattle.codegen.proofs.Called.{placed_for, have_routines}
-use Rattle.codegen.proofs.Calls.{served, at_number, local_stands, calls_in, entered}
+use Rattle.follows430.proofs.Served.{served, many_variables}
+use Rattle.codegen.proofs.Calls.{at_number, local_stands, calls_in, entered}
 use Rattle.codegen.proofs.Faultless.{few_functions, names_inside, is_faultless}
 use Rattle.codegen.proofs.Frames.{temporaries_fit, frame_fits}
 use Rattle.codegen.proofs.Labels.{leaves}
@@ -57,7 +58,7 @@ use Rattle.codegen.proofs.Locals.{inner, layout, cells}
 use Rattle.codegen.proofs.Named.{named}
 use Rattle.codegen.proofs.Objects.{numbered, as_many, found, stands_alone, variables_in_data, behind_outputs, stamps_in_data}
 use Rattle.codegen.proofs.Routines.{IsAmong, routine_stands}
-use Rattle.codegen.proofs.Sizes.{AreSmall, all_small, data_ends, variables_stand, as_many_variables}
+use Rattle.codegen.proofs.Sizes.{AreSmall, all_small, data_ends, variables_stand}
 use Rattle.codegen.proofs.Steps.{NamesInside, code_stands, code_before}
 
 -- a function that has a step is there
@@ -89,7 +90,7 @@ module _ (routine : Helper → List ℕ) (core : Core) (ir : Ir) (code : List �
   small : AreSmall core
   small = all_small core h.fine
 
-  room : stamps_start core ≤ data_end
+  pub room : stamps_start core ≤ data_end
   room = let l = data_ends core small.variables in omega arith
 
   few : length ir.functions ≤ 65536
@@ -139,7 +140,7 @@ module _ (routine : Helper → List ℕ) (core : Core) (ir : Ir) (code : List �
       }
     where
       as_many_globals : length ir.globals ≡ length core.globals
-      as_many_globals = ap length h.serves.globals ∙ as_many_variables core 0 core.globals
+      as_many_globals = many_variables core ir h.serves
 
   pub frames_fit : (g : ℕ) (fn : IrFunction) → slice_get p.ir.functions g ≡ Some fn → FrameFits fn
   frames_fit g fn e =

@@ -22,3 +22,4 @@ pub mod First
 pub mod Starts
 pub mod Shortly
 pub mod Stops
+pub mod Ready

@@ -105,7 +105,3 @@ variables_stand core ir e small n l =
     let whole : told_address (global_address core n) ≡ global_address core n = omega arith in
     ap (λ (gs : List IrGlobal). address_or (slice_get gs n)) e ∙ variable_at core 0 n core.globals l
     ∙ ap told_address plain ∙ whole
-
-pub as_many_variables : (core : Core) (k : ℕ) (gs : List Global) → length (globals_from core k gs) ≡ length gs
-as_many_variables core k [] = refl
-as_many_variables core k (g ∷ gs) = ap suc (as_many_variables core (k + 1) gs)

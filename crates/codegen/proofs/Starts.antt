@@ -30,9 +30,7 @@ use Rattle.ideal430.specs.Loaded.{loaded, start_of, start_registers}
 use Rattle.ideal430.specs.Places.{is_fixed}
 use Rattle.ideal430.specs.declared.state.IdealEnd.TheVariants.{Running}
 use Rattle.ir.specs.declared.form.Ir.{Ir}
-use Rattle.ir.specs.declared.form.IrState.TheVariants as form
 use Rattle.ir.specs.Machine as machine
-use Rattle.ir_gen.specs.Serves.{Serves}
 use Rattle.matching.specs.Covering.{IsCovered}
 use Rattle.matching.specs.Laid.{IsMade}
 use Rattle.matching.specs.Matches.{placed as alive}
@@ -43,6 +41,7 @@ use Rattle.select430.specs.Labels.{function_label}
 use Rattle.steps430.specs.Setting.{Setting}
 use Rattle.steps430.specs.Standing.{AreWhole, AreFilled, Stage, Entering}
 use Rattle.steps430.specs.Whole.{StartsRight, EndsRight}
+use Rattle.follows430.proofs.Served.{same_start, many_variables}
 use Rattle.codegen.specs.Program.{start_items, items_of}
 use Rattle.codegen.specs.Words.{global_words}
 use Rattle.codegen.specs.Laid.{setting_of, IsProgram}
@@ -52,16 +51,8 @@ use Rattle.codegen.proofs.First.{cells, own, shape, covered, filled, words_small
 use Rattle.codegen.proofs.Laid.{below}
 use Rattle.codegen.proofs.Lists.{none_some}
 use Rattle.codegen.proofs.Lawful.{main_alone, starts_narrow}
-use Rattle.codegen.proofs.Sizes.{AreSmall, all_small, as_many_variables}
+use Rattle.codegen.proofs.Sizes.{AreSmall, all_small}
 use Rattle.codegen.proofs.Values.{whole_start}
-
--- the form's run starts where the program's does
-same_state : (a b : State) → form.Live a ≡ form.Live b → a ≡ b
-same_state a b e = cc
-
-pub same_start : (core : Core) (ir : Ir) → Serves core ir → machine.start ir ≡ meaning.start core
-unfolding machine.stop_at meaning.stop_at
-same_start core ir h = same_state (machine.start ir) (meaning.start core) (h.same [] 0 tt)
 
 module _ (routine : Helper → List ℕ) (core : Core) (ir : Ir) (code : List ℕ) (readings : List Reading)
     (h : IsProgram routine core ir code)
@@ -183,7 +174,7 @@ module _ (routine : Helper → List ℕ) (core : Core) (ir : Ir) (code : List �
   matches = subst (λ (s : State). MachineMatches core s start) (sym same) matches_program
 
   many : length core.globals ≡ length ir.globals
-  many = sym (ap length h.serves.globals ∙ as_many_variables core 0 core.globals)
+  many = sym (many_variables core ir h.serves)
 
   made : IsMade core (length ir.globals) (kept (machine.start ir))
   made = subst (λ (n : ℕ). IsMade core n (kept (machine.start ir))) many

@@ -15,6 +15,7 @@ use Rattle.ideal430.specs.Loaded.{loaded}
 use Rattle.ir.specs.declared.form.Ir.{Ir}
 use Rattle.ir.specs.declared.form.IrFunction.{IrFunction}
 use Rattle.ir.specs.declared.form.Step.{Step}
+use Rattle.ir_gen.specs.Plain.{IsPlain}
 use Rattle.ir_gen.specs.Serves.{Serves}
 use Rattle.select430.specs.Code.{code_of_step}
 use Rattle.select430.specs.Items.{functions_items}
@@ -60,9 +61,11 @@ setting_of routine core ir code readings = record {
 
 -- ---- what is known
 
--- A lawful program with a form that serves it, and the words of its items; each routine has words that compute its operator.
+-- A lawful program without annotated statements, with a form that serves it, and the words of its items; each routine has words
+-- that compute its operator.
 pub record IsProgram (routine : Helper → List ℕ) (core : Core) (ir : Ir) (code : List ℕ) : Type 0 where
   pub lawful : LawfulCore core
+  pub plain : IsPlain core
   pub serves : Serves core ir
   pub few : (g : ℕ) (fn : IrFunction) → slice_get ir.functions g ≡ Some fn → length fn.steps < 4294967296
   pub computes : (which : Helper) → Computes which (routine which)
