@@ -1,8 +1,9 @@
 -- The helper routines that the steps of a program call are among those that are placed.
-use Rattle.std.proofs.Common.{◌≡◌, ℕ, zero, suc, Bool, true, false, ◌||◌, List, [], ◌∷◌, Some, sym, subst, refl, nat_eq, inl, inr, arith}
+use Rattle.std.proofs.Common.{◌≡◌, ℕ, zero, suc, ◌+◌, Bool, true, false, ◌||◌, List, [], ◌∷◌, ◌++◌, Some, sym, subst, refl, nat_eq, inl, inr, arith}
 use Rattle.std.proofs.lemmas.Bool.Decides.{nat_tests}
 use Rattle.std.specs.Prelude.{slice_get, if◌then◌else◌}
 use Rattle.core_tree.specs.LawfulCore.{Every}
+use Rattle.asm430.specs.declared.item.Item.{Item}
 use Rattle.rt430.specs.declared.words.Helper.{Helper}
 use Rattle.rt430.specs.declared.words.Helper.TheVariants as helper
 use Rattle.ir.specs.declared.form.Ir.{Ir}
@@ -11,11 +12,13 @@ use Rattle.ir.specs.declared.form.Step.{Step}
 use Rattle.select430.specs.declared.part.Part.{Part}
 use Rattle.select430.specs.declared.part.Part.TheVariants as part
 use Rattle.select430.specs.Code.{code_of_step}
-use Rattle.select430.specs.Labels.{helper_number}
+use Rattle.select430.specs.Items.{block, steps_items, function_items, functions_items}
+use Rattle.select430.specs.Labels.{function_label, helper_number, helper_label, first_helper_label}
+use Rattle.select430.specs.Parts.{parts_items}
 use Rattle.steps430.specs.Setting.{Setting, HasItsRoutine}
-use Rattle.codegen.specs.Program.{parts_call, steps_call, functions_call, called_of, all_helpers, routines_of}
+use Rattle.codegen.specs.Program.{is_call, has_call, called_of, all_helpers, routines_of}
 use Rattle.codegen.proofs.Lists.{same_some, none_some}
-use Rattle.codegen.proofs.Routines.{IsAmong}
+use Rattle.codegen.proofs.RoutinesStand.{IsAmong}
 
 -- ---- over truths
 
@@ -29,25 +32,74 @@ or_second false b e = e
 
 -- ---- what is called
 
-in_steps : (ir : Ir) (fn : IrFunction) (which : Helper) (ss : List Step) (q : ℕ) (s : Step) → slice_get ss q ≡ Some s
-    → parts_call which (code_of_step ir fn s.kind) ≡ true → steps_call ir fn which ss ≡ true
-in_steps ir fn which [] q s e c = absurd (none_some s e)
-in_steps ir fn which (x ∷ xs) zero s e c =
-    let is : x ≡ s = same_some x s e in
-    or_first (parts_call which (code_of_step ir fn x.kind)) (steps_call ir fn which xs)
-    (subst (λ (z : Step). parts_call which (code_of_step ir fn z.kind) ≡ true) (sym is) c)
-in_steps ir fn which (x ∷ xs) (suc q) s e c =
-    or_second (parts_call which (code_of_step ir fn x.kind)) (steps_call ir fn which xs) (in_steps ir fn which xs q s e c)
+-- whether parts call a helper routine
+abbrev pub parts_call : Helper → List Part → Bool
+parts_call which [] = false
+parts_call which (part.Helps other ∷ xs) = nat_eq (helper_number other) (helper_number which) || parts_call which xs
+parts_call which (x ∷ xs) = parts_call which xs
 
-in_functions : (ir : Ir) (which : Helper) (fns : List IrFunction) (g : ℕ) (fn : IrFunction) → slice_get fns g ≡ Some fn
-    → steps_call ir fn which fn.steps ≡ true → functions_call ir which fns ≡ true
-in_functions ir which [] g fn e c = absurd (none_some fn e)
-in_functions ir which (x ∷ xs) zero fn e c =
+call_left : (label : ℕ) (xs ys : List Item) → has_call label xs ≡ true → has_call label (xs ++ ys) ≡ true
+call_left label [] ys c = cc
+call_left label (x ∷ xs) ys c = from (is_call label x) (call_left label xs ys) c
+  where
+    from : (b : Bool) → (has_call label xs ≡ true → has_call label (xs ++ ys) ≡ true) → b || has_call label xs ≡ true
+        → b || has_call label (xs ++ ys) ≡ true
+    from true more c = refl
+    from false more c = more c
+
+call_right : (label : ℕ) (xs ys : List Item) → has_call label ys ≡ true → has_call label (xs ++ ys) ≡ true
+call_right label [] ys c = c
+call_right label (x ∷ xs) ys c = or_second (is_call label x) (has_call label (xs ++ ys)) (call_right label xs ys c)
+
+same_label : (m n : ℕ) → nat_eq m n ≡ true → nat_eq (first_helper_label + m) (first_helper_label + n) ≡ true
+same_label m n e = grind (arith, nat_tests)
+
+-- parts call what their items call
+in_parts : (g p : ℕ) (which : Helper) (xs : List Part) → parts_call which xs ≡ true
+    → has_call (helper_label which) (parts_items g p xs) ≡ true
+in_parts g p which [] c = cc
+in_parts g p which (part.Helps x ∷ xs) c = from (nat_eq (helper_number x) (helper_number which)) refl (in_parts g p which xs) c
+  where
+    from : (b : Bool) → nat_eq (helper_number x) (helper_number which) ≡ b
+        → (parts_call which xs ≡ true → has_call (helper_label which) (parts_items g p xs) ≡ true) → b || parts_call which xs ≡ true
+        → nat_eq (helper_label x) (helper_label which) || has_call (helper_label which) (parts_items g p xs) ≡ true
+    from true e more c = or_first (nat_eq (helper_label x) (helper_label which))
+        (has_call (helper_label which) (parts_items g p xs)) (same_label (helper_number x) (helper_number which) e)
+    from false e more c = or_second (nat_eq (helper_label x) (helper_label which))
+        (has_call (helper_label which) (parts_items g p xs)) (more c)
+in_parts g p which (part.Do i ∷ xs) c = in_parts g p which xs c
+in_parts g p which (part.DoUnless t i ∷ xs) c = in_parts g p which xs c
+in_parts g p which (part.Go to ∷ xs) c = in_parts g p which xs c
+in_parts g p which (part.GoUnless t to ∷ xs) c = in_parts g p which xs c
+in_parts g p which (part.Enters f ∷ xs) c =
+    or_second (nat_eq (function_label f) (helper_label which)) (has_call (helper_label which) (parts_items g p xs))
+    (in_parts g p which xs c)
+in_parts g p which (part.Names t r ∷ xs) c = in_parts g p which xs c
+
+in_steps : (ir : Ir) (fn : IrFunction) (which : Helper) (g p : ℕ) (ss : List Step) (q : ℕ) (s : Step) → slice_get ss q ≡ Some s
+    → parts_call which (code_of_step ir fn s.kind) ≡ true → has_call (helper_label which) (steps_items ir fn g p ss) ≡ true
+in_steps ir fn which g p [] q s e c = absurd (none_some s e)
+in_steps ir fn which g p (x ∷ xs) zero s e c =
+    let is : x ≡ s = same_some x s e in
+    call_left (helper_label which) (block ir fn g p x) (steps_items ir fn g (suc p) xs)
+    (in_parts g p which (code_of_step ir fn x.kind)
+    (subst (λ (z : Step). parts_call which (code_of_step ir fn z.kind) ≡ true) (sym is) c))
+in_steps ir fn which g p (x ∷ xs) (suc q) s e c =
+    call_right (helper_label which) (block ir fn g p x) (steps_items ir fn g (suc p) xs)
+    (in_steps ir fn which g (suc p) xs q s e c)
+
+in_functions : (ir : Ir) (which : Helper) (g : ℕ) (fns : List IrFunction) (n : ℕ) (fn : IrFunction) (q : ℕ) (s : Step)
+    → slice_get fns n ≡ Some fn → slice_get fn.steps q ≡ Some s → parts_call which (code_of_step ir fn s.kind) ≡ true
+    → has_call (helper_label which) (functions_items ir g fns) ≡ true
+in_functions ir which g [] n fn q s e k c = absurd (none_some fn e)
+in_functions ir which g (x ∷ xs) zero fn q s e k c =
     let is : x ≡ fn = same_some x fn e in
-    or_first (steps_call ir x which x.steps) (functions_call ir which xs)
-    (subst (λ (z : IrFunction). steps_call ir z which z.steps ≡ true) (sym is) c)
-in_functions ir which (x ∷ xs) (suc g) fn e c =
-    or_second (steps_call ir x which x.steps) (functions_call ir which xs) (in_functions ir which xs g fn e c)
+    call_left (helper_label which) (function_items ir g x) (functions_items ir (suc g) xs)
+    (subst (λ (z : IrFunction). has_call (helper_label which) (steps_items ir z g 0 z.steps) ≡ true) (sym is)
+    (in_steps ir fn which g 0 fn.steps q s k c))
+in_functions ir which g (x ∷ xs) (suc n) fn q s e k c =
+    call_right (helper_label which) (function_items ir g x) (functions_items ir (suc g) xs)
+    (in_functions ir which (suc g) xs n fn q s e k c)
 
 -- ---- which of all is placed
 
@@ -59,14 +111,14 @@ here_if : (b : Bool) (which : Helper) (hs : List Helper) → b ≡ true → IsAm
 here_if true which hs e = inl refl
 here_if false which hs e = cc
 
-among_called : (ir : Ir) (which : Helper) (hs : List Helper) → IsAmong which hs → functions_call ir which ir.functions ≡ true
-    → IsAmong which (called_of ir hs)
-among_called ir which [] a c = absurd a
-among_called ir which (x ∷ xs) (inl e) c =
-    subst (λ (z : Helper). IsAmong which (called_of ir (z ∷ xs))) (sym e)
-    (here_if (functions_call ir which ir.functions) which (called_of ir xs) c)
-among_called ir which (x ∷ xs) (inr a) c =
-    among_if (functions_call ir x ir.functions) x which (called_of ir xs) (among_called ir which xs a c)
+among_called : (items : List Item) (which : Helper) (hs : List Helper) → IsAmong which hs
+    → has_call (helper_label which) items ≡ true → IsAmong which (called_of items hs)
+among_called items which [] a c = absurd a
+among_called items which (x ∷ xs) (inl e) c =
+    subst (λ (z : Helper). IsAmong which (called_of items (z ∷ xs))) (sym e)
+    (here_if (has_call (helper_label which) items) which (called_of items xs) c)
+among_called items which (x ∷ xs) (inr a) c =
+    among_if (has_call (helper_label x) items) x which (called_of items xs) (among_called items which xs a c)
 
 among_all : (which : Helper) → IsAmong which all_helpers
 among_all helper.Mul16 = inl refl
@@ -82,8 +134,8 @@ among_all helper.Sar = inr (inr (inr (inr (inr (inr (inr (inl refl)))))))
 pub placed_for : (ir : Ir) (g q : ℕ) (fn : IrFunction) (s : Step) (which : Helper) → slice_get ir.functions g ≡ Some fn
     → slice_get fn.steps q ≡ Some s → parts_call which (code_of_step ir fn s.kind) ≡ true → IsAmong which (routines_of ir)
 placed_for ir g q fn s which e k c =
-    among_called ir which all_helpers (among_all which)
-    (in_functions ir which ir.functions g fn e (in_steps ir fn which fn.steps q s k c))
+    among_called (functions_items ir 0 ir.functions) which all_helpers (among_all which)
+    (in_functions ir which 0 ir.functions g fn q s e k c)
 
 -- ---- parts
 

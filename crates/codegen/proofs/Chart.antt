@@ -8,7 +8,8 @@ use Rattle.core_tree.specs.LawfulCore.{Every}
 use Rattle.matching.specs.Covering.{cell_by}
 use Rattle.matching.proofs.Lying.{each}
 use Rattle.codegen.proofs.Lists.{same_some, none_some}
-use Rattle.codegen.specs.Words.{Datum, code_or_zero, byte_of, word_of}
+use Rattle.codegen.specs.declared.data.Datum.{Datum}
+use Rattle.codegen.specs.Words.{code_or_zero, byte_of, word_of}
 
 -- ---- data that share no byte
 

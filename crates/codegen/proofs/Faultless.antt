@@ -40,12 +40,12 @@ use Rattle.select430.specs.Parts.{Name, label_of, part_items, parts_items, parts
 use Rattle.select430.proofs.Naming.{step_names}
 use Rattle.select430.proofs.Owning.{fit_row}
 use Rattle.codegen.specs.Laid.{IsProgram}
-use Rattle.codegen.specs.Program.{start_items, parts_call, functions_call, called_of, all_helpers, routines_of, routine_items, rows_words, table_items, back_items, items_of, labels_end}
-use Rattle.codegen.proofs.Called.{or_first, or_second, placed_for}
+use Rattle.codegen.specs.Program.{start_items, has_call, called_of, all_helpers, routines_of, routine_items, rows_words, table_items, back_items, items_of, labels_end}
+use Rattle.codegen.proofs.Called.{or_first, or_second, parts_call, placed_for}
 use Rattle.follows430.proofs.Served.{served}
 use Rattle.codegen.proofs.Lists.{same_some, none_some, some_at}
 use Rattle.codegen.proofs.Rising.{LabelsRise, place_there, Standing, standing_left, standing_right, has_place, function_standing, of_function_standing, routine_standing, table_standing, program_rises}
-use Rattle.codegen.proofs.Routines.{words_long}
+use Rattle.codegen.proofs.RoutinesStand.{words_long}
 use Rattle.codegen.proofs.Sizes.{all_small as fine_sizes}
 use Rattle.codegen.proofs.Steps.{NamesInside, names_hold}
 
@@ -343,12 +343,12 @@ have_room core ir serves none =
 abbrev sizes : List Helper → ℕ
 sizes hs = total (map (λ h. routine_size h) hs)
 
-called_small : (ir : Ir) (hs : List Helper) → sizes (called_of ir hs) ≤ sizes hs
-called_small ir [] = omega arith
-called_small ir (h ∷ hs) = from (functions_call ir h ir.functions) (called_small ir hs)
+called_small : (items : List Item) (hs : List Helper) → sizes (called_of items hs) ≤ sizes hs
+called_small items [] = omega arith
+called_small items (h ∷ hs) = from (has_call (helper_label h) items) (called_small items hs)
   where
-    from : (b : Bool) → sizes (called_of ir hs) ≤ sizes hs
-        → sizes (if b then h ∷ called_of ir hs else called_of ir hs) ≤ sizes (h ∷ hs)
+    from : (b : Bool) → sizes (called_of items hs) ≤ sizes hs
+        → sizes (if b then h ∷ called_of items hs else called_of items hs) ≤ sizes (h ∷ hs)
     from true l = omega arith
     from false l = omega arith
 
@@ -460,7 +460,7 @@ module _ (words : Helper → List ℕ) (sized : (which : Helper) → length (wor
       let small : words_in items ≤ 14336 =
       all_small (words_in (functions ++ back_items words core ir)) (words_in functions) (words_in (back_items words core ir))
       (words_in (routine_items words (routines_of ir))) (words_in (table_items core 0 ir.tables)) (sizes (routines_of ir))
-      (code_cost core) behind back (routines_small words sized (routines_of ir)) (called_small ir all_helpers) room cost in
+      (code_cost core) behind back (routines_small words sized (routines_of ir)) (called_small functions all_helpers) room cost in
       ap (λ (es : List AsmErr). es ++ (far_in items 0 0 items ++ too_long (words_in items))) (none_unbound items 0 items all_fine)
       ∙ ap (λ (es : List AsmErr). es ++ too_long (words_in items)) (none_far items 0 0 items all_fine)
       ∙ too_short (words_in items) small

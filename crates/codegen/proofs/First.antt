@@ -31,10 +31,11 @@ use Rattle.matching.proofs.Even.{made_aligned}
 use Rattle.matching.proofs.Lying.{each, each_append, laid_made, variables_lie}
 use Rattle.matching.proofs.Making.{start_made}
 use Rattle.steps430.specs.Standing.{IsFilled, AreFilled}
-use Rattle.codegen.specs.Words.{Datum, scalar_data, object_data, stamp_data, data_of, code_or_zero, byte_of, word_of, global_words}
+use Rattle.codegen.specs.declared.data.Datum.{Datum}
+use Rattle.codegen.specs.Words.{scalar_data, object_data, stamp_data, data_of, code_or_zero, byte_of, word_of, global_words}
 use Rattle.codegen.proofs.Assembled.{data_loaded}
 use Rattle.codegen.proofs.Chart.{size_by, end, Distinct, AreDistinct, IsEven, IsSmall, HasBytes, chart, charted, of_all, all_fit, all_bytes, byte_small}
-use Rattle.codegen.proofs.Data.{distinct_append, below_above, datum, objects_distinct, objects_between, objects_even, objects_small, stamps_from, stamps_to, stamps_distinct, stamps_even, AreNone, stamps_small, word_at, words_wide}
+use Rattle.codegen.proofs.DataWords.{distinct_append, below_above, datum, objects_distinct, objects_between, objects_even, objects_small, stamps_from, stamps_to, stamps_distinct, stamps_even, AreNone, stamps_small, word_at, words_wide}
 use Rattle.codegen.proofs.Lists.{every_split}
 
 -- ---- stamps at the start

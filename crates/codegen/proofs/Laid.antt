@@ -52,12 +52,12 @@ use Rattle.follows430.proofs.Served.{served, many_variables}
 use Rattle.codegen.proofs.Calls.{at_number, local_stands, calls_in, entered}
 use Rattle.codegen.proofs.Faultless.{few_functions, names_inside, is_faultless}
 use Rattle.codegen.proofs.Frames.{temporaries_fit, frame_fits}
-use Rattle.codegen.proofs.Labels.{leaves}
+use Rattle.codegen.proofs.LabelsLeft.{leaves}
 use Rattle.codegen.proofs.Lists.{none_some}
 use Rattle.codegen.proofs.Locals.{inner, layout, cells}
 use Rattle.codegen.proofs.Named.{named}
 use Rattle.codegen.proofs.Objects.{numbered, as_many, found, stands_alone, variables_in_data, behind_outputs, stamps_in_data}
-use Rattle.codegen.proofs.Routines.{IsAmong, routine_stands}
+use Rattle.codegen.proofs.RoutinesStand.{IsAmong, routine_stands}
 use Rattle.codegen.proofs.Sizes.{AreSmall, all_small, data_ends, variables_stand}
 use Rattle.codegen.proofs.Steps.{NamesInside, code_stands, code_before}
 

@@ -22,7 +22,8 @@ use Rattle.ir_gen.specs.Serves.{Serves}
 use Rattle.matching.specs.Matches.{Placed, placed_from, placed, encoded}
 use Rattle.matching.proofs.Lying.{each_append}
 use Rattle.steps430.specs.Setting.{function_at}
-use Rattle.codegen.specs.Words.{Datum, scalar_data, object_data, stamp_data, data_of, code_or_zero}
+use Rattle.codegen.specs.declared.data.Datum.{Datum}
+use Rattle.codegen.specs.Words.{scalar_data, object_data, stamp_data, data_of, code_or_zero}
 use Rattle.codegen.proofs.Calls.{at_number}
 use Rattle.codegen.proofs.Lists.{same_some}
 

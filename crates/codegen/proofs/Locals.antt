@@ -33,11 +33,12 @@ use Rattle.matching.proofs.Lying.{laid_made}
 use Rattle.matching.proofs.Making.{start_made, entered_made}
 use Rattle.select430.specs.Frames.{temporaries_at}
 use Rattle.steps430.specs.Calls.{LieIn, HaveCells}
-use Rattle.codegen.specs.Words.{Datum, scalar_data, object_data}
+use Rattle.codegen.specs.declared.data.Datum.{Datum}
+use Rattle.codegen.specs.Words.{scalar_data, object_data}
 use Rattle.follows430.proofs.Served.{served}
 use Rattle.codegen.proofs.Calls.{at_number, same_objects, calls_in}
 use Rattle.codegen.proofs.Chart.{Distinct, AreDistinct, IsEven, chart, charted, of_all, all_fit}
-use Rattle.codegen.proofs.Data.{objects_distinct, objects_even}
+use Rattle.codegen.proofs.DataWords.{objects_distinct, objects_even}
 use Rattle.codegen.proofs.Lists.{same_some, every_split}
 
 -- ---- data without values

@@ -20,8 +20,8 @@ use Rattle.select430.specs.Parts.{parts_items, skips}
 use Rattle.select430.proofs.Fitting.{step_fits}
 use Rattle.codegen.specs.Program.{start_items, routine_items, routines_of, rows_words, table_items, back_items, items_of, labels_end}
 use Rattle.codegen.proofs.Lists.{same_some, none_some}
-use Rattle.codegen.proofs.Labels.{number_small}
-use Rattle.codegen.proofs.Routines.{Rises, routines_rise, IsAmong}
+use Rattle.codegen.proofs.LabelsLeft.{number_small}
+use Rattle.codegen.proofs.RoutinesStand.{Rises, routines_rise, IsAmong}
 
 -- ---- labels that rise
 

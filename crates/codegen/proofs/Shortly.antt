@@ -1,9 +1,7 @@
 -- From mark to mark the machine makes few instructions.
-use Rattle.std.proofs.Common.{◌≡◌, ℕ, ◌+◌, ◌*◌, ◌<◌, ◌≤◌, refl, sym, subst, arith, Bool, true, false, List, [], ◌∷◌, Option, Some, None, if◌then◌else◌}
+use Rattle.std.proofs.Common.{ℕ, ◌+◌, ◌*◌, ◌≤◌, arith, Bool, true, false, List, [], ◌∷◌, Option, Some, None, if◌then◌else◌}
 use Rattle.std.specs.Prelude.{slice_get}
 use Rattle.base16.specs.declared.reading.Reading.{Reading}
-use Rattle.c_run.specs.Runs.{Run}
-use Rattle.core_tree.specs.Nodes.{nodes}
 use Rattle.core_tree.specs.declared.program.Core.{Core}
 use Rattle.rt430.specs.declared.words.Helper.{Helper}
 use Rattle.ir.specs.Between.{Site, site_of}
@@ -16,7 +14,7 @@ use Rattle.ir.specs.declared.form.Step.{Step}
 use Rattle.ir.specs.declared.form.StepKind.{StepKind}
 use Rattle.ir_gen.specs.Short.{cost, cost_of, cost_in, cost_at, costs}
 use Rattle.steps430.specs.Setting.{Setting, or_none}
-use Rattle.steps430.specs.Whole.{most_of, most_of_step, most_at, most_in, most_behind, Since, StaysShort}
+use Rattle.steps430.specs.Whole.{most_of_step, most_at, most_in, most_behind, StaysShort}
 use Rattle.steps430.proofs.Since.{since_reaches, twice_most}
 use Rattle.codegen.specs.Laid.{setting_of, IsProgram}
 

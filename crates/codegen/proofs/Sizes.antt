@@ -15,7 +15,8 @@ use Rattle.ir.specs.declared.form.Ir.{Ir}
 use Rattle.ir.specs.declared.form.IrGlobal.{IrGlobal}
 use Rattle.ir_gen.specs.Form.{globals_from}
 use Rattle.select430.specs.Frames.{address_or}
-use Rattle.codegen.specs.Made.{FrameTooBig, DataTooBig, CodeTooBig, big_frame, start_bytes, refused_by, refusal_of}
+use Rattle.codegen.specs.declared.errors.GenErr.TheVariants.{FrameTooBig, DataTooBig, CodeTooBig}
+use Rattle.codegen.specs.Refused.{big_frame, start_bytes, refused_by, refusal_of}
 use Rattle.codegen.proofs.Frames.{row_ends}
 use Rattle.codegen.proofs.Lists.{same_some, none_some, some_none, some_at}
 

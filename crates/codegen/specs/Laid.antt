@@ -24,7 +24,8 @@ use Rattle.select430.specs.Parts.{Addresses, parts_words}
 use Rattle.steps430.specs.Setting.{Setting, function_at}
 use Rattle.codegen.specs.Program.{table_items, items_of}
 use Rattle.codegen.specs.Words.{global_words}
-use Rattle.codegen.specs.Made.{AreWordsOf, refusal_of}
+use Rattle.codegen.specs.Made.{AreWordsOf}
+use Rattle.codegen.specs.Refused.{refusal_of}
 
 -- ---- where steps stand
 

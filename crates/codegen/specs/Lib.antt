@@ -1,4 +1,9 @@
 pub mod Program
+pub mod Standing
 pub mod Words
+pub mod Bytes
+pub mod Refused
 pub mod Made
+pub mod Placing
+pub mod Symbols
 pub mod Laid

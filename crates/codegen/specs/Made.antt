@@ -1,10 +1,8 @@
--- The image of a program, and which programs have none.
-use Rattle.std.specs.Prelude.{◌≡◌, ℕ, suc, ◌+◌, ◌-◌, List, [], ◌∷◌, length, Option, Some, None, nat_lt, if◌then◌else◌}
-use Rattle.base16.specs.Board.{most_frame_bytes, data_start, data_end, code_start, code_end}
+-- The image of a program.
+use Rattle.std.specs.Prelude.{◌≡◌, ℕ, suc, List, [], ◌∷◌, length}
 use Rattle.base16.specs.declared.image.FuncSym.{FuncSym}
 use Rattle.base16.specs.declared.image.Image.{Image}
-use Rattle.core_tree.specs.Costs.{code_cost}
-use Rattle.core_tree.specs.Data.{data_bytes, scalars}
+use Rattle.core_tree.specs.Data.{scalars}
 use Rattle.core_tree.specs.Heights.{frame_bytes}
 use Rattle.core_tree.specs.declared.program.Core.{Core}
 use Rattle.core_tree.specs.declared.program.Function.{Function}
@@ -40,31 +38,6 @@ pub record IsImageOf (routine : Helper → List ℕ) (core : Core) (ir : Ir) (im
   pub scalars : image.symbols.scalars ≡ scalars core
   pub functions : image.symbols.functions ≡ functions_from (items_of routine core ir) core.structs 0 core.functions
 
--- ---- the programs that have none
-
-pub data Refusal : Type 0 where
-  -- a function's frame is above 240 bytes
-  FrameTooBig : (function : ℕ) → Refusal
-  -- variables and stamps are above 16,384 bytes
-  DataTooBig : Refusal
-  -- the code may be above 28,672 bytes: the rows of all nodes, and 1,024 for the start and the helper routines
-  CodeTooBig : Refusal
-
--- the first function whose frame is too big, from a number on
-abbrev pub big_frame : List Struct → ℕ → List Function → Option ℕ
-big_frame structs n [] = None
-big_frame structs n (x ∷ xs) =
-    if nat_lt most_frame_bytes (frame_bytes structs x) then Some n else big_frame structs (suc n) xs
-
-abbrev pub start_bytes : ℕ
-start_bytes = 1024
-
-abbrev pub refused_by : Option ℕ → Core → Option Refusal
-refused_by (Some n) core = Some (FrameTooBig n)
-refused_by None core =
-    if nat_lt (data_end - data_start) (data_bytes core) then Some DataTooBig
-    else (if nat_lt (code_end - code_start) (code_cost core + start_bytes) then Some CodeTooBig else None)
-
--- why a program has no image: the first of these causes
-abbrev pub refusal_of : Core → Option Refusal
-refusal_of core = refused_by (big_frame core.structs 0 core.functions) core
+-- the image of a program and its form, where the helper routines have some words
+abbrev pub IsImage : Core → Ir → Image → Type 0
+IsImage core ir image = (routine : Helper → List ℕ) × IsImageOf routine core ir image

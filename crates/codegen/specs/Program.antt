@@ -5,17 +5,15 @@ use Rattle.c_run.specs.declared.timed.Timed.{Timed}
 use Rattle.core_tree.specs.Data.{stamp_address}
 use Rattle.core_tree.specs.declared.program.Core.{Core}
 use Rattle.asm430.specs.declared.item.Item.{Item}
-use Rattle.asm430.specs.declared.item.Item.TheVariants.{Instr as Plain, Label, CallTo, Word}
+use Rattle.asm430.specs.declared.item.Item.TheVariants.{Instr as Plain, Label, Jump, Branch, CallTo, AddressOf, Word}
+use Rattle.asm430.specs.Assembly.{words_in}
 use Rattle.rt430.specs.declared.words.Helper.{Helper}
 use Rattle.rt430.specs.declared.words.Helper.TheVariants.{Mul16, Udiv16, Umod16, Sdiv16, Smod16, Shl, Shr, Sar}
 use Rattle.ir.specs.declared.form.Ir.{Ir}
 use Rattle.ir.specs.declared.form.IrFunction.{IrFunction}
-use Rattle.ir.specs.declared.form.Step.{Step}
 use Rattle.matching.specs.Simulates.{last_call}
-use Rattle.select430.specs.declared.part.Part.{Part}
-use Rattle.select430.specs.declared.part.Part.TheVariants.{Helps}
-use Rattle.select430.specs.Code.{code_of_step}
-use Rattle.select430.specs.Labels.{function_label, helper_number, helper_label, table_label, first_table_label}
+use Rattle.select430.specs.Items.{function_items, functions_items}
+use Rattle.select430.specs.Labels.{function_label, helper_label, table_label, first_table_label}
 use Rattle.select430.specs.Laying.{all_items}
 
 -- ---- the start
@@ -26,32 +24,34 @@ start_items ir = CallTo (function_label ir.main) ∷ Plain last_call ∷ []
 
 -- ---- helper routines
 
--- whether parts call a helper routine
-abbrev pub parts_call : Helper → List Part → Bool
-parts_call which [] = false
-parts_call which (Helps other ∷ xs) = nat_eq (helper_number other) (helper_number which) || parts_call which xs
-parts_call which (x ∷ xs) = parts_call which xs
+-- whether an item calls a label
+abbrev pub is_call : ℕ → Item → Bool
+is_call label (Plain instr) = false
+is_call label (Label other) = false
+is_call label (Jump cond other) = false
+is_call label (Branch other) = false
+is_call label (CallTo other) = nat_eq other label
+is_call label (AddressOf other register) = false
+is_call label (Word word) = false
 
-abbrev pub steps_call : Ir → IrFunction → Helper → List Step → Bool
-steps_call ir fn which [] = false
-steps_call ir fn which (s ∷ ss) = parts_call which (code_of_step ir fn s.kind) || steps_call ir fn which ss
-
-abbrev pub functions_call : Ir → Helper → List IrFunction → Bool
-functions_call ir which [] = false
-functions_call ir which (fn ∷ fns) = steps_call ir fn which fn.steps || functions_call ir which fns
+-- whether one of these items does
+abbrev pub has_call : ℕ → List Item → Bool
+has_call label [] = false
+has_call label (x ∷ xs) = is_call label x || has_call label xs
 
 -- all of them, in the order of their numbers
 abbrev pub all_helpers : List Helper
 all_helpers = Mul16 ∷ Udiv16 ∷ Umod16 ∷ Sdiv16 ∷ Smod16 ∷ Shl ∷ Shr ∷ Sar ∷ []
 
--- those that some function calls
-abbrev pub called_of : Ir → List Helper → List Helper
-called_of ir [] = []
-called_of ir (which ∷ more) =
-    if functions_call ir which ir.functions then which ∷ called_of ir more else called_of ir more
+-- those of some routines that these items call
+abbrev pub called_of : List Item → List Helper → List Helper
+called_of items [] = []
+called_of items (which ∷ more) =
+    if has_call (helper_label which) items then which ∷ called_of items more else called_of items more
 
+-- those that some function calls
 abbrev pub routines_of : Ir → List Helper
-routines_of ir = called_of ir all_helpers
+routines_of ir = called_of (functions_items ir 0 ir.functions) all_helpers
 
 -- routines one behind the other, each with its label in front; each has its words
 abbrev pub routine_items : (Helper → List ℕ) → List Helper → List Item
@@ -84,6 +84,11 @@ items_of words core ir = all_items ir (start_items ir) (back_items words core ir
 -- the items in front of the check tables
 abbrev pub code_items : (Helper → List ℕ) → Ir → List Item
 code_items words ir = all_items ir (start_items ir) (routine_items words (routines_of ir))
+
+-- where functions begin, from a number on: the words in front of each, where so many are in front of the first
+abbrev pub function_starts : ℕ → Ir → ℕ → List IrFunction → List ℕ
+function_starts words ir g [] = []
+function_starts words ir g (fn ∷ fns) = words ∷ function_starts (words + words_in (function_items ir g fn)) ir (suc g) fns
 
 -- behind all labels that stand in them
 abbrev pub labels_end : Ir → ℕ

@@ -1,6 +1,6 @@
 -- The words of a program's data at its start: each scalar of a variable in the encoding of its first value, stamps that are
 -- none, and 0 between them.
-use Rattle.std.specs.Prelude.{ℕ, zero, suc, ◌+◌, ◌*◌, ◌/◌, ◌%◌, nat_eq, Bool, true, ◌&&◌, if◌then◌else◌, List, [], ◌∷◌, ◌++◌, Option, Some, None}
+use Rattle.std.specs.Prelude.{ℕ, zero, suc, ◌+◌, ◌*◌, ◌/◌, ◌%◌, nat_eq, true, ◌&&◌, if◌then◌else◌, List, [], ◌∷◌, ◌++◌, Option, Some, None}
 use Rattle.base16.specs.Board.{data_start}
 use Rattle.c_meaning.specs.After.{start}
 use Rattle.c_run.specs.Actions.{kept}
@@ -9,31 +9,31 @@ use Rattle.c_values.specs.declared.value.Cell.{Cell}
 use Rattle.core_tree.specs.Data.{stamp_address, data_bytes}
 use Rattle.core_tree.specs.declared.program.Core.{Core}
 use Rattle.matching.specs.Matches.{Placed, placed, encoded, stamp_code}
-
--- a word or a byte of the data, and what stands there; nothing of it is said where it has no value
-pub record Datum : Type 0 where
-  pub address : ℕ
-  pub wide : Bool
-  pub code : Option ℕ
+use Rattle.codegen.specs.declared.data.Datum.{Datum}
 
 -- ---- what there is
 
+-- a scalar of an object that stands at an address
+abbrev pub scalar_datum : (alive : List Placed) → (address : ℕ) → Cell → Datum
+scalar_datum alive address c = record { address = address + c.offset; wide = wide c.kind; code = encoded alive c.kind c.value }
+
 abbrev pub scalar_data : (alive : List Placed) → (address : ℕ) → List Cell → List Datum
 scalar_data alive address [] = []
-scalar_data alive address (c ∷ cs) =
-    record { address = address + c.offset; wide = wide c.kind; code = encoded alive c.kind c.value }
-    ∷ scalar_data alive address cs
+scalar_data alive address (c ∷ cs) = scalar_datum alive address c ∷ scalar_data alive address cs
 
 abbrev pub object_data : (alive : List Placed) → List Placed → List Datum
 object_data alive [] = []
 object_data alive (p ∷ ps) = scalar_data alive p.address p.object.cells ++ object_data alive ps
 
+abbrev pub word_datum : (address code : ℕ) → Datum
+word_datum address code = record { address = address; wide = true; code = Some code }
+
 -- a stamp is two words, the low one first
 abbrev pub stamp_data : Core → (n : ℕ) → List (Option ℕ) → List Datum
 stamp_data core n [] = []
 stamp_data core n (stamp ∷ more) =
-    record { address = stamp_address core n; wide = true; code = Some (stamp_code stamp % 65536) }
-    ∷ record { address = stamp_address core n + 2; wide = true; code = Some (stamp_code stamp / 65536) }
+    word_datum (stamp_address core n) (stamp_code stamp % 65536)
+    ∷ word_datum (stamp_address core n + 2) (stamp_code stamp / 65536)
     ∷ stamp_data core (n + 1) more
 
 -- the scalars and stamps of a program at its start

@@ -2,7 +2,7 @@
 
 ghost use Rattle.std.specs.Prelude.{◌<◌, ◌^◌, length};
 
-use crate::forms::comes_to;
+use crate::{forms, images};
 use base16::Reading;
 use c_interpreter::meaning;
 use c_lex::{Token, lex};
@@ -11,6 +11,7 @@ use c_parse::parse;
 use c_tree::Tree;
 use c_types::check;
 use core_tree::Core;
+use ir_build::generate;
 use report_state::state_text;
 use std::alloc::{AllocError, Global};
 use world::parse_readings;
@@ -18,7 +19,28 @@ use world::parse_readings;
 /// The most bytes of a source and of its readings.
 const MOST_BYTES: usize = 1_000_000;
 
-/// The text of the state of a program after so many marks, to which its form has to come as well.
+/// What comes to something else than the program, whose state after so many marks has this text: its form, or its image.
+fn differs(
+    alloc: Global,
+    core: &Core,
+    readings: &[Reading],
+    marks: u32,
+    state: &CState,
+    text: &[u8],
+) -> Result<Option<&'static [u8]>, AllocError> {
+    let Ok(ir) = generate(alloc, core) else {
+        return Err(AllocError);
+    };
+    if !forms::comes_to(alloc, core, &ir, readings, marks, text)? {
+        return Ok(Some(b"its form comes to something else\n"));
+    }
+    if !images::comes_to(alloc, core, &ir, readings, marks, state)? {
+        return Ok(Some(b"its image comes to something else\n"));
+    }
+    Ok(None)
+}
+
+/// The text of the state of a program after so many marks, to which its form and its image have to come as well.
 fn of_core(
     alloc: Global,
     core: &Core,
@@ -31,13 +53,14 @@ fn of_core(
     let Ok(text) = state_text(alloc, &state, core) else {
         return Err(AllocError);
     };
-    // Of a program whose run is undefined nothing is said of the form.
-    if !matches!(state, CState::Undefined { .. })
-        && !comes_to(alloc, core, readings, marks, text.as_slice())?
-    {
-        return Vec::from_slice(alloc, b"its form comes to something else\n");
+    // Of a program whose run is undefined nothing is said of the others.
+    if matches!(state, CState::Undefined { .. }) {
+        return Ok(text);
     }
-    Ok(text)
+    match differs(alloc, core, readings, marks, &state, text.as_slice())? {
+        None => Ok(text),
+        Some(found) => Vec::from_slice(alloc, found),
+    }
 }
 
 /// That of the program of a tree.

@@ -3,8 +3,7 @@
 use base16::Reading;
 use c_meaning::CState;
 use core_tree::Core;
-use ir::IrState;
-use ir_build::generate;
+use ir::{Ir, IrState};
 use ir_run::ir_run;
 use report_state::state_text;
 use std::alloc::{AllocError, Global};
@@ -23,14 +22,12 @@ fn of_program(state: IrState) -> Option<CState> {
 pub fn comes_to(
     alloc: Global,
     core: &Core,
+    ir: &Ir,
     readings: &[Reading],
     marks: u32,
     text: &[u8],
 ) -> Result<bool, AllocError> {
-    let Ok(ir) = generate(alloc, core) else {
-        return Err(AllocError);
-    };
-    let Ok(state) = ir_run(alloc, &ir, readings, marks) else {
+    let Ok(state) = ir_run(alloc, ir, readings, marks) else {
         return Err(AllocError);
     };
     let Some(state) = of_program(state) else {

@@ -1,9 +1,10 @@
 //! Reads a table of programs with the text of the state to which each comes, and tells those that come to another one, or
-//! whose three-address forms do.
+//! whose three-address forms do, or whose images on the machine with unbroken power.
 #![tactic(auto)]
 
 mod answers;
 mod forms;
+mod images;
 mod table;
 
 use std::io;

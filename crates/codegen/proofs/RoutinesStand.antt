@@ -19,8 +19,8 @@ use Rattle.select430.specs.Items.{functions_items}
 use Rattle.select430.specs.Labels.{function_label, helper_number, helper_label, first_helper_label}
 use Rattle.select430.proofs.Places.{functions_labels}
 use Rattle.steps430.specs.Routines.{HasRoutine}
-use Rattle.codegen.specs.Program.{start_items, functions_call, called_of, routines_of, all_helpers, routine_items, table_items, items_of, labels_end}
-use Rattle.codegen.proofs.Labels.{words_labels, number_small, table_labels}
+use Rattle.codegen.specs.Program.{start_items, has_call, called_of, routines_of, all_helpers, routine_items, table_items, items_of, labels_end}
+use Rattle.codegen.proofs.LabelsLeft.{words_labels, number_small, table_labels}
 
 -- ---- their numbers rise
 
@@ -37,13 +37,13 @@ or_not : (b : Bool) (n : ℕ) (w : Helper) (hs : List Helper) → n ≤ helper_n
 or_not true n w hs l h = (l, h)
 or_not false n w hs l h = rises_lower n (helper_number w + 1) hs (omega arith) h
 
-called_rise : (ir : Ir) (n : ℕ) (hs : List Helper) → Rises n hs → Rises n (called_of ir hs)
-called_rise ir n [] h = tt
-called_rise ir n (w ∷ ws) h =
-    or_not (functions_call ir w ir.functions) n w (called_of ir ws) h.0 (called_rise ir (helper_number w + 1) ws h.1)
+called_rise : (items : List Item) (n : ℕ) (hs : List Helper) → Rises n hs → Rises n (called_of items hs)
+called_rise items n [] h = tt
+called_rise items n (w ∷ ws) h =
+    or_not (has_call (helper_label w) items) n w (called_of items ws) h.0 (called_rise items (helper_number w + 1) ws h.1)
 
 pub routines_rise : (ir : Ir) → Rises 0 (routines_of ir)
-routines_rise ir = called_rise ir 0 all_helpers
+routines_rise ir = called_rise (functions_items ir 0 ir.functions) 0 all_helpers
     (omega arith, (omega arith, (omega arith, (omega arith, (omega arith, (omega arith, (omega arith, (omega arith, tt))))))))
 
 -- ---- one of them

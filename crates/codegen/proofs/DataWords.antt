@@ -17,7 +17,8 @@ use Rattle.core_tree.specs.declared.types.Slot.{Slot}
 use Rattle.matching.specs.Laid.{slot_of, EndsBefore, AreApart, AreLaid, LiesIn, IsAligned}
 use Rattle.matching.specs.Matches.{Placed, address_of, number_code, pointer_code, encoded, stamp_code}
 use Rattle.matching.proofs.Lying.{each, each_append}
-use Rattle.codegen.specs.Words.{Datum, scalar_data, object_data, stamp_data, code_or_zero, word_of, words_from}
+use Rattle.codegen.specs.declared.data.Datum.{Datum}
+use Rattle.codegen.specs.Words.{scalar_data, object_data, stamp_data, code_or_zero, word_of, words_from}
 use Rattle.codegen.proofs.Chart.{end, Distinct, AreDistinct, IsEven, IsSmall, size_by, word_small}
 
 -- ---- lists
